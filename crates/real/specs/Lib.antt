@@ -1,0 +1,2 @@
+-- Functions of one or two f32. Assumes nothing.
+pub mod Float

@@ -1,0 +1,2 @@
+-- Vectors, 3x3 matrices by columns and quaternions, by value. Assumes nothing.
+pub mod Vector
