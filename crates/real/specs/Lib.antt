@@ -1,2 +1,3 @@
 -- Functions of one or two f32. Assumes nothing.
 pub mod Float
+pub mod Real
