@@ -4,3 +4,5 @@ pub mod Real
 pub mod SinCos
 pub mod Acos
 pub mod Sign
+pub mod Laws
+pub mod Worked
