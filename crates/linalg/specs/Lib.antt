@@ -1,0 +1,3 @@
+-- Linear algebra of the soft rows. Assumes nothing.
+pub mod Eigen
+pub mod Steps
