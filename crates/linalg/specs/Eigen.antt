@@ -42,14 +42,15 @@ settled a = le (off a) (tolerance ⊗ diag a)
 -- ---- the rotation that zeroes apq, d being aqq - app
 
 -- tan φ, the smaller root
-abbrev pub tan : Float → Float → Float
-tan apq d = f2 ⊗ apq ⊘ (d ⊕ signum d ⊗ rootOf (d ⊗ d ⊕ f4 ⊗ apq ⊗ apq))
+abbrev pub tangent : Float → Float → Float
+tangent apq d = f2 ⊗ apq ⊘ (d ⊕ signum d ⊗ rootOf (d ⊗ d ⊕ f4 ⊗ apq ⊗ apq))
 
-abbrev pub cos : Float → Float
-cos t = f1 ⊘ rootOf (f1 ⊕ t ⊗ t)
+-- cos φ and sin φ by t = tan φ
+abbrev pub cosine : Float → Float
+cosine t = f1 ⊘ rootOf (f1 ⊕ t ⊗ t)
 
-abbrev pub sin : Float → Float
-sin t = t ⊗ cos t
+abbrev pub sine : Float → Float
+sine t = t ⊗ cosine t
 
 -- row k: its entries p and q become c * akp - s * akq and s * akp + c * akq
 abbrev pub columnStep : ℕ → ℕ → Float → Float → ℕ → Rows → Rows
@@ -84,8 +85,8 @@ rotate p q c s e = record { a = rotateRows p q c s (rotateColumns p q c s (e .a)
 unfoldable pub turn : ℕ → ℕ → State → State
 turn p q e =
     let apq = entry (e .a) p q in
-    let t = tan apq (entry (e .a) q q ⊖ entry (e .a) p p) in
-    cond (eq apq f0) e (rotate p q (cos t) (sin t) e)
+    let t = tangent apq (entry (e .a) q q ⊖ entry (e .a) p p) in
+    cond (eq apq f0) e (rotate p q (cosine t) (sine t) e)
 
 unfoldable pub sweep : State → State
 sweep e = turn 1 2 (turn 0 2 (turn 0 1 e))
@@ -111,11 +112,11 @@ eigenOf e =
     record {
       values = record { x = entry (e .a) 0 0; y = entry (e .a) 1 1; z = entry (e .a) 2 2 };
       vectors =
-        record {
-          x = record { x = entry (e .v) 0 0; y = entry (e .v) 1 0; z = entry (e .v) 2 0 };
-          y = record { x = entry (e .v) 0 1; y = entry (e .v) 1 1; z = entry (e .v) 2 1 };
-          z = record { x = entry (e .v) 0 2; y = entry (e .v) 1 2; z = entry (e .v) 2 2 };
-        };
+          record {
+            x = record { x = entry (e .v) 0 0; y = entry (e .v) 1 0; z = entry (e .v) 2 0 };
+            y = record { x = entry (e .v) 0 1; y = entry (e .v) 1 1; z = entry (e .v) 2 1 };
+            z = record { x = entry (e .v) 0 2; y = entry (e .v) 1 2; z = entry (e .v) 2 2 };
+          };
     }
 
 unfoldable pub symmetricEigen : Mat3 → Eigen

@@ -1,11 +1,11 @@
 // Linear algebra of the soft rows, after soft_element_linalg.rs.
 ghost use mathlib.Core.Path.{_≡_};
 ghost use Rattle.linalg.specs.Eigen as spec;
-ghost use Rattle.linalg.specs.Steps as steps;
+ghost use Rattle.linalg.specs.Products as products;
+use vector::Mat3;
+use vector::Vec3;
 
-use vector::{Mat3, Vec3};
-
-mod jacobi; // jacobi.rt: the steps of a sweep
+mod jacobi; // the steps of a sweep
 
 // The vectors are columns.
 #[repr(C)]
@@ -48,9 +48,13 @@ fn eigen_of(a: [[f32; 3]; 3], v: [[f32; 3]; 3]) -> Eigen
 pub fn symmetric_eigen(m: Mat3) -> Eigen
     ensures { λ r. ⌜ r ≡ spec.symmetricEigen m ⌝ }
 {
-    let mut a = [[m.x.x, m.y.x, m.z.x], [m.x.y, m.y.y, m.z.y], [m.x.z, m.y.z, m.z.z]];
+    let mut a = [
+        [m.x.x, m.y.x, m.z.x],
+        [m.x.y, m.y.y, m.z.y],
+        [m.x.z, m.y.z, m.z.z],
+    ];
     let mut v = [[1.0f32, 0.0, 0.0], [0.0, 1.0, 0.0], [0.0, 0.0, 1.0]];
-    for i in 0usize..8 {
+    for _ in 0usize..8 {
         if jacobi::is_settled(a) {
             break;
         }
@@ -67,4 +71,26 @@ pub fn symmetric_eigen(m: Mat3) -> Eigen
         v = v3;
     }
     eigen_of(a, v)
+}
+
+// The outer product `a bᵀ`.
+pub fn outer_product(a: Vec3, b: Vec3) -> Mat3
+    ensures { λ r. ⌜ r ≡ products.outerProduct a b ⌝ }
+{
+    Mat3 {
+        x: vector::scale(a, b.x),
+        y: vector::scale(a, b.y),
+        z: vector::scale(a, b.z),
+    }
+}
+
+// The cofactor matrix `∂det(F)/∂F`.
+pub fn cofactor(f: Mat3) -> Mat3
+    ensures { λ r. ⌜ r ≡ products.cofactor f ⌝ }
+{
+    Mat3 {
+        x: vector::cross(f.y, f.z),
+        y: vector::cross(f.z, f.x),
+        z: vector::cross(f.x, f.y),
+    }
 }

@@ -1,7 +1,7 @@
 -- `linalg::symmetric_eigen` meets its contract: what is to come of the state before each turn is what was to come of it at first, and a turn is a sweep.
 -- Assumes nothing.
 use Prim.Native.Nat.{_-_}
-use mathlib.Core.Path.{sym, _∙_, ap}
+use mathlib.Core.Path.{_∙_, ap}
 use mathlib.Core.Logic.{⊎-elim}
 use borrow.Author.Needs.{needs}
 use Rattle.loops.specs.Loops.{Coming, coming-none, coming-more, coming-stop, coming-end}
@@ -9,15 +9,13 @@ use Rattle.linalg.specs.Eigen.{State, settled, sweep, sweeps, eigenOf, s
 use Rattle.linalg.specs.Steps.{swept}
 use Rattle.linalg.proofs.symmetric_eigen.Statement.{statement}
 use Rattle.linalg.proofs.symmetric_eigen.Tie as tie
-use Rattle.linalg.proofs.symmetric_eigen.Reads as reads
-use Rattle.linalg.proofs.symmetric_eigen.Lts as lts
 
 abbrev Inv-loop : tie.InvT-loop
-Inv-loop a₀ v₀ i₀ a v i =
-    Coming {S = State} 8 (λ x. settled (x .a)) sweep (record { a = a₀; v = v₀ }) i (record { a = a; v = v })
+Inv-loop a₀ v₀ counter₀ a v counter =
+    Coming {S = State} 8 (λ x. settled (x .a)) sweep (record { a = a₀; v = v₀ }) counter (record { a = a; v = v })
 
 abbrev μ-loop : tie.MeasureT-loop
-μ-loop a₀ v₀ i₀ a v i = 8 - i
+μ-loop a₀ v₀ counter₀ a v counter = 8 - counter
 
 loop-holds : tie.Need-loop-holds Inv-loop μ-loop
 loop-holds c = coming-none
@@ -52,8 +50,8 @@ turn-vectors-requires-2 c κs = search needs
 turn-vectors-requires-3 : tie.Need-turn-vectors-requires-3 Inv-loop μ-loop
 turn-vectors-requires-3 c κs = search needs
 
-add-i : tie.Need-add-i Inv-loop μ-loop
-add-i c = search needs
+add-counter : tie.Need-add-counter Inv-loop μ-loop
+add-counter c = search needs
 
 loop-less : tie.Need-loop-less Inv-loop μ-loop
 loop-less c = search needs
@@ -64,11 +62,18 @@ loop-again c =
     let third = vectors .before .before in
     let second = third .before .before in
     let first = second .before .before in
-    let test = first .before .before in
-    let start = test .before .before .loop in
-    coming-more (start .inv) (search needs) (cc)
-    (swept (start .a) (start .v) (first .rotation-at .ensures) (second .before .turn-01 .ensures) (second .rotation-at2 .ensures) (third .before .turn-02 .ensures)
-      (third .rotation-at3 .ensures) (vectors .before .turn-12 .ensures) (vectors .turn-vectors .ensures) (c .before .turn-vectors2 .ensures) (c .turn-vectors3 .ensures))
+    let loop = first .before .before .before .before .loop in
+    coming-more (loop .inv) (search needs) (cc)
+    (swept (loop .a) (loop .v)
+    (first .rotation-at .ensures)
+    (second .before .turn-01 .ensures)
+    (second .rotation-at2 .ensures)
+    (third .before .turn-02 .ensures)
+    (third .rotation-at3 .ensures)
+    (vectors .before .turn-12 .ensures)
+    (vectors .turn-vectors .ensures)
+    (c .before .turn-vectors2 .ensures)
+    (c .turn-vectors3 .ensures))
 
 eigen-of-requires : tie.Need-eigen-of-requires Inv-loop μ-loop
 eigen-of-requires c κs = search needs
@@ -76,9 +81,11 @@ eigen-of-requires c κs = search needs
 returns : tie.Need-returns Inv-loop μ-loop
 unfolding symmetricEigen sweeps
 returns c =
-    let start = c .before .before .loop in
+    let loop = c .before .before .loop in
     c .eigen-of .ensures
-    ∙ ap eigenOf (⊎-elim (λ w. coming-end (start .inv) (search needs)) (λ w. coming-stop (start .inv) (search needs) (cc)) (c .before .loop-test .came))
+    ∙ ap eigenOf
+    (⊎-elim (λ w. coming-end (loop .inv) (search needs)) (λ w. coming-stop (loop .inv) (search needs) (cc))
+    (c .before .loop-test .came))
 
 pub symmetric-eigen-spec : {M : Type 1} → statement M
 symmetric-eigen-spec =
@@ -97,7 +104,7 @@ symmetric-eigen-spec =
     turn-vectors-requires
     turn-vectors-requires-2
     turn-vectors-requires-3
-    add-i
+    add-counter
     loop-less
     loop-again
     eigen-of-requires
