@@ -49,7 +49,7 @@ placed m (negsuc k) h =
     let e : 149 - suc k + suc k ≡ 149 = omega arith in
     mul-assoc m 1 (2 ^ 149) ∙ ap (λ (n : ℕ). m * n) (one-mul (2 ^ 149) ∙ ap (λ (n : ℕ). 2 ^ n) (sym e) ∙ pow-add 2 (149 - suc k) (suc k)) ∙ sym (mul-assoc m (2 ^ (149 - suc k)) (2 ^ suc k))
 
--- the three bounds of an f32 that is not zero
+-- the four tests of `fits`, at a number that is not zero
 abbrev isOdd : ℕ → ℤ → Bool
 isOdd m e = eqb (suc m % 2) 1
 
