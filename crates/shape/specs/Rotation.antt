@@ -5,11 +5,10 @@ use Rattle.loops.specs.Loops.{whileUpTo}
 use Rattle.real.specs.Float.{_⊕_, _⊗_, _⊘_, f0, f1, f½}
 use Rattle.real.specs.Real.{abs}
 use Rattle.vector.specs.Vector.{zeroVector, add, scale, divide, dot, cross, lengthOf}
-use Rattle.vector.specs.Quaternion.{product, normalise, toMatrix}
+use Rattle.vector.specs.Quaternion.{product, normalise, toMatrix, fromAxisAngle}
 use Rattle.vector.specs.declared.Vec3.{Vec3}
 use Rattle.vector.specs.declared.Mat3.{Mat3}
 use Rattle.vector.specs.declared.Quat.{Quat}
-use Rattle.shape.specs.Trig.{fromAxisAngle}
 
 -- 0.1
 abbrev pub tenth : Float

@@ -1,10 +1,10 @@
 // The rotation nearest to a matrix, from a warm start.
 ghost use mathlib.Core.Path.{_≡_};
 ghost use Rattle.shape.specs.Rotation as spec;
-use crate::trig::from_axis_angle;
 use vector::Mat3;
 use vector::Quat;
 use vector::Vec3;
+use vector::quaternion::from_axis_angle;
 use vector::quaternion::normalise;
 use vector::quaternion::product;
 use vector::quaternion::to_matrix;
