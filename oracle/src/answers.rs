@@ -20,6 +20,9 @@ pub type Six = SVector<Real, 6>;
 pub type Six6 = SMatrix<Real, 6, 6>;
 type Velocities = [Vector; POINTS];
 
+/// A function of words.
+pub type Call = fn(&[u32]) -> Vec<u32>;
+
 /// One function of the table.
 pub struct Function {
     pub name: &'static str,
@@ -27,7 +30,7 @@ pub struct Function {
     pub inputs: usize,
     pub outputs: usize,
     /// The answer to `inputs` words; any NaN in it is 0x7FC00000.
-    pub answer: fn(&[u32]) -> Vec<u32>,
+    pub answer: Call,
     /// Inputs: the number counts from 0, and the first ones are those that must never be missing.
     pub make: fn(&mut Random, usize) -> Vec<u32>,
     pub branches: Branches,
@@ -78,30 +81,30 @@ pub const FUNCTIONS: &[Function] = &[
     function!(signum(x: Real) -> Real = x.signum(), inputs::reals::<1>, branches::SIGN),
     function!(abs(x: Real) -> Real = x.abs(), inputs::reals::<1>, branches::SIGN),
     function!(inv(x: Real) -> Real = utils::inv(x), inputs::inv, branches::INV),
-    function!(rem(x: Real) -> Real = x % real::TURN, inputs::rem, branches::REM),
+    function!(rem_turn(x: Real) -> Real = x % real::TURN, inputs::rem, branches::REM),
     // Vectors of three.
     function!(dot(a: Vector, b: Vector) -> Real = a.dot(b), inputs::reals::<6>, branches::NONE),
     function!(cross(a: Vector, b: Vector) -> Vector = a.cross(b), inputs::reals::<6>, branches::NONE),
     function!(length(a: Vector) -> Real = a.length(), inputs::reals::<3>, branches::NONE),
     function!(length_squared(a: Vector) -> Real = a.length_squared(), inputs::reals::<3>, branches::NONE),
     function!(element_sum(a: Vector) -> Real = a.element_sum(), inputs::reals::<3>, branches::NONE),
-    function!(vec_add(a: Vector, b: Vector) -> Vector = a + b, inputs::reals::<6>, branches::NONE),
-    function!(vec_sub(a: Vector, b: Vector) -> Vector = a - b, inputs::reals::<6>, branches::NONE),
-    function!(vec_scale(a: Vector, k: Real) -> Vector = a * k, inputs::reals::<4>, branches::NONE),
-    function!(vec_div(a: Vector, k: Real) -> Vector = a / k, inputs::reals::<4>, branches::NONE),
-    function!(vec_neg(a: Vector) -> Vector = -a, inputs::reals::<3>, branches::NONE),
+    function!(add(a: Vector, b: Vector) -> Vector = a + b, inputs::reals::<6>, branches::NONE),
+    function!(sub(a: Vector, b: Vector) -> Vector = a - b, inputs::reals::<6>, branches::NONE),
+    function!(scale(a: Vector, k: Real) -> Vector = a * k, inputs::reals::<4>, branches::NONE),
+    function!(divide(a: Vector, k: Real) -> Vector = a / k, inputs::reals::<4>, branches::NONE),
+    function!(neg(a: Vector) -> Vector = -a, inputs::reals::<3>, branches::NONE),
     // 3×3 matrices by columns.
-    function!(mat3_vec(m: Matrix, v: Vector) -> Vector = m * v, inputs::reals::<12>, branches::NONE),
-    function!(mat3_mul(m: Matrix, n: Matrix) -> Matrix = m * n, inputs::reals::<18>, branches::NONE),
-    function!(mat3_add(m: Matrix, n: Matrix) -> Matrix = m + n, inputs::reals::<18>, branches::NONE),
-    function!(mat3_sub(m: Matrix, n: Matrix) -> Matrix = m - n, inputs::reals::<18>, branches::NONE),
-    function!(mat3_scale(m: Matrix, k: Real) -> Matrix = m * k, inputs::reals::<10>, branches::NONE),
+    function!(mul_vec(m: Matrix, v: Vector) -> Vector = m * v, inputs::reals::<12>, branches::NONE),
+    function!(mul_mat(m: Matrix, n: Matrix) -> Matrix = m * n, inputs::reals::<18>, branches::NONE),
+    function!(add_mat(m: Matrix, n: Matrix) -> Matrix = m + n, inputs::reals::<18>, branches::NONE),
+    function!(sub_mat(m: Matrix, n: Matrix) -> Matrix = m - n, inputs::reals::<18>, branches::NONE),
+    function!(scale_mat(m: Matrix, k: Real) -> Matrix = m * k, inputs::reals::<10>, branches::NONE),
     function!(transpose(m: Matrix) -> Matrix = m.transpose(), inputs::reals::<9>, branches::NONE),
     function!(determinant(m: Matrix) -> Real = m.determinant(), inputs::reals::<9>, branches::NONE),
     // Quaternions.
-    function!(quat_mul(p: Rotation, q: Rotation) -> Rotation = p * q, inputs::reals::<8>, branches::NONE),
-    function!(quat_normalize(q: Rotation) -> Rotation = q.normalize(), inputs::reals::<4>, branches::NONE),
-    function!(quat_to_mat(q: Rotation) -> Matrix = Matrix::from_quat(q), inputs::reals::<4>, branches::NONE),
+    function!(product(p: Rotation, q: Rotation) -> Rotation = p * q, inputs::reals::<8>, branches::NONE),
+    function!(normalise(q: Rotation) -> Rotation = q.normalize(), inputs::reals::<4>, branches::NONE),
+    function!(to_matrix(q: Rotation) -> Matrix = Matrix::from_quat(q), inputs::reals::<4>, branches::NONE),
     function!(
         from_axis_angle(axis: Vector, w: Real) -> Rotation =
             Rotation::from_axis_angle(axis, w),
@@ -109,27 +112,27 @@ pub const FUNCTIONS: &[Function] = &[
         branches::AXIS_ANGLE
     ),
     // Six rows.
-    function!(six_add(a: Six, b: Six) -> Six = a + b, inputs::reals::<12>, branches::NONE),
-    function!(six_sub(a: Six, b: Six) -> Six = a - b, inputs::reals::<12>, branches::NONE),
-    function!(six_scale(a: Six, k: Real) -> Six = a * k, inputs::reals::<7>, branches::NONE),
+    function!(add6(a: Six, b: Six) -> Six = a + b, inputs::reals::<12>, branches::NONE),
+    function!(sub6(a: Six, b: Six) -> Six = a - b, inputs::reals::<12>, branches::NONE),
+    function!(scale6(a: Six, k: Real) -> Six = a * k, inputs::reals::<7>, branches::NONE),
     function!(
-        component_mul(a: Six, b: Six) -> Six =
+        component_mul6(a: Six, b: Six) -> Six =
             a.component_mul(&b),
         inputs::reals::<12>,
         branches::NONE
     ),
-    function!(six_dot(a: Six, b: Six) -> Real = a.dot(&b), inputs::reals::<12>, branches::NONE),
+    function!(dot6(a: Six, b: Six) -> Real = a.dot(&b), inputs::reals::<12>, branches::NONE),
     function!(mat_vec(m: Six6, v: Six) -> Six = m * v, inputs::reals::<42>, branches::NONE),
     function!(mat_mul(a: Six6, b: Six6) -> Six6 = a * b, inputs::reals::<72>, branches::NONE),
-    function!(mat_add(a: Six6, b: Six6) -> Six6 = a + b, inputs::reals::<72>, branches::NONE),
-    function!(mat_scale(m: Six6, k: Real) -> Six6 = m * k, inputs::reals::<37>, branches::NONE),
+    function!(add36(a: Six6, b: Six6) -> Six6 = a + b, inputs::reals::<72>, branches::NONE),
+    function!(scale36(m: Six6, k: Real) -> Six6 = m * k, inputs::reals::<37>, branches::NONE),
     function!(ger(factor: Real, w: Six, m: Six6) -> Six6 = {
         let mut m = m;
         m.ger(factor, &w, &w, 1.0);
         m
     }, inputs::reals::<43>, branches::NONE),
     function!(from_diagonal(d: Six) -> Six6 = Six6::from_diagonal(&d), inputs::reals::<6>, branches::NONE),
-    function!(identity() -> Six6 = Six6::identity(), inputs::reals::<0>, branches::NONE),
+    function!(identity6() -> Six6 = Six6::identity(), inputs::reals::<0>, branches::NONE),
     function!(
         try_inverse(m: Six6) -> Six6 =
             m.try_inverse().unwrap_or(Six6::zeros()),

@@ -6,6 +6,7 @@
 
 pub mod answers;
 pub mod branches;
+pub mod direct;
 pub mod inputs;
 mod listed;
 pub mod random;

@@ -53,6 +53,12 @@ pub const NONE: Branches = Branches {
     mark: |_, _| {},
 };
 
+/// Branches that may stay at 0, and why.
+pub const RARE: &[(&str, &str)] = &[(
+    "d = -0",
+    ": a strain's own sums with the identity are never -0; met in symmetric_eigen and neo_hookean_hessian",
+)];
+
 /// How often each branch was taken.
 pub struct Tally(Vec<(&'static str, u64)>);
 

@@ -1,6 +1,8 @@
 //! Vectors and matrices of fixed size, under the names that nalgebra gives them. Products sum from index 0, the first product
 //! itself the start.
 
+#![expect(clippy::needless_range_loop, reason = "document 01 goes by index")]
+
 use super::real::Real;
 use std::array::from_fn;
 use std::ops::{Add, AddAssign, Deref, Index, Mul, MulAssign, Sub};
@@ -120,6 +122,7 @@ impl<const N: usize> MulAssign<Real> for SVector<Real, N> {
 }
 
 /// A matrix of `R` rows and `C` columns, column by column.
+#[repr(transparent)]
 #[derive(Copy, Clone, Debug, PartialEq)]
 pub struct SMatrix<T, const R: usize, const C: usize>(pub [[T; R]; C]);
 
@@ -183,9 +186,15 @@ impl<const N: usize> SMatrix<Real, N, N> {
             }
             self.clear_below(j);
         }
-        Some(Self(from_fn(|c| {
-            self.solve(from_fn(|i| if order[i] == c { 1.0 } else { 0.0 }))
-        })))
+        let mut inverse = Self::zeros();
+        for c in 0..N {
+            let mut unit = [0.0; N];
+            for i in 0..N {
+                unit[i] = if order[i] == c { 1.0 } else { 0.0 };
+            }
+            inverse.0[c] = self.solve(unit);
+        }
+        Some(inverse)
     }
 
     /// Multiplier = entry·(1/pivot); row less multiplier·pivot row.
@@ -195,11 +204,10 @@ impl<const N: usize> SMatrix<Real, N, N> {
         for i in j + 1..N {
             self.0[j][i] *= inverse;
         }
-        let multipliers = self.0[j];
-        for column in &mut self.0[j + 1..] {
-            let above = column[j];
+        for k in j + 1..N {
+            let above = self.0[k][j];
             for i in j + 1..N {
-                column[i] -= multipliers[i] * above;
+                self.0[k][i] -= self.0[j][i] * above;
             }
         }
     }
@@ -208,15 +216,18 @@ impl<const N: usize> SMatrix<Real, N, N> {
     #[inline]
     fn solve(&self, mut x: [Real; N]) -> [Real; N] {
         for i in 0..N {
+            let mut left = x[i];
             for k in 0..i {
-                x[i] -= self.0[k][i] * x[k];
+                left -= self.0[k][i] * x[k];
             }
+            x[i] = left;
         }
         for i in (0..N).rev() {
+            let mut left = x[i];
             for k in (i + 1..N).rev() {
-                x[i] -= self.0[k][i] * x[k];
+                left -= self.0[k][i] * x[k];
             }
-            x[i] /= self.0[i][i];
+            x[i] = left / self.0[i][i];
         }
         x
     }
@@ -234,10 +245,13 @@ impl<const R: usize, const C: usize> Mul<SVector<Real, C>> for SMatrix<Real, R, 
     type Output = SVector<Real, R>;
     #[inline]
     fn mul(self, v: SVector<Real, C>) -> SVector<Real, R> {
-        let mut sums = self.0[0].map(|entry| entry * v.0[0]);
-        for (column, part) in self.0.iter().zip(v.0).skip(1) {
-            for (sum, entry) in sums.iter_mut().zip(column) {
-                *sum += entry * part;
+        let mut sums = [0.0; R];
+        for i in 0..R {
+            sums[i] = self.0[0][i] * v.0[0];
+        }
+        for k in 1..C {
+            for i in 0..R {
+                sums[i] += self.0[k][i] * v.0[k];
             }
         }
         SVector(sums)
@@ -250,7 +264,20 @@ impl<const R: usize, const K: usize, const C: usize> Mul<SMatrix<Real, K, C>>
     type Output = SMatrix<Real, R, C>;
     #[inline]
     fn mul(self, b: SMatrix<Real, K, C>) -> SMatrix<Real, R, C> {
-        SMatrix(b.0.map(|column| (self * SVector(column)).0))
+        let mut product = SMatrix::zeros();
+        for j in 0..C {
+            let mut sums = [0.0; R];
+            for i in 0..R {
+                sums[i] = self.0[0][i] * b.0[j][0];
+            }
+            for k in 1..K {
+                for i in 0..R {
+                    sums[i] += self.0[k][i] * b.0[j][k];
+                }
+            }
+            product.0[j] = sums;
+        }
+        product
     }
 }
 
