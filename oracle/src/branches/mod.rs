@@ -56,7 +56,7 @@ pub const NONE: Branches = Branches {
 /// Branches that may stay at 0, and why.
 pub const RARE: &[(&str, &str)] = &[(
     "d = -0",
-    ": a strain's own sums with the identity are never -0; met in symmetric_eigen and neo_hookean_hessian",
+    ": the diagonal of I + strain is never -0; met in symmetric_eigen and neo_hookean_hessian",
 )];
 
 /// How often each branch was taken.

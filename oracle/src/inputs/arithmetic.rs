@@ -1,8 +1,8 @@
 //! Inputs for modules 1 to 3 of document 01.
 
 use super::numbers::{
-    SPECIALS, finite_special, mixed, next, pattern, plain, previous, reals, small_whole, special,
-    words,
+    SPECIALS, again, finite_special, mixed, next, pattern, plain, previous, reals, small_whole,
+    special, words,
 };
 use crate::random::Random;
 use crate::support::real::TURN;
@@ -16,6 +16,7 @@ fn first_then(
     random: &mut Random,
     rest: impl Fn(&mut Random) -> f32,
 ) -> f32 {
+    let number = again(random, number, first.len() + SPECIALS.len());
     match first.get(number) {
         Some(&x) => x,
         None => match SPECIALS.get(number - first.len()) {
@@ -161,11 +162,12 @@ pub fn two_reals(random: &mut Random, number: usize) -> Vec<u32> {
         [2.0, 1.0],
         [1.0, 1.0],
     ];
+    let count = SPECIALS.len();
+    let number = again(random, number, first.len() + count * count);
     if let Some(pair) = first.get(number) {
         return words(pair);
     }
     let number = number - first.len();
-    let count = SPECIALS.len();
     if number < count * count {
         // Each special value stands on both sides after `count` pairs.
         return vec![
@@ -198,6 +200,7 @@ pub fn clamp(random: &mut Random, number: usize) -> Vec<u32> {
         [1.0, -1.0, 1.0],
         [-1.0, -1.0, 1.0],
     ];
+    let number = again(random, number, first.len() + SPECIALS.len());
     if let Some(three) = first.get(number) {
         return words(three);
     }
@@ -233,10 +236,11 @@ pub fn bounds(random: &mut Random) -> (f32, f32) {
 
 /// 6×6 matrices for the inverse: singular ones, equal pivots, zero pivots in each column, NaN among them.
 pub fn six_rows(random: &mut Random, number: usize) -> Vec<u32> {
+    let number = again(random, number, FIRST_SIX_ROWS);
     if let Some(m) = first_six_rows(number) {
         return words(&m);
     }
-    let number = number - 14;
+    let number = number - FIRST_SIX_ROWS;
     if number < SPECIALS.len() {
         return reals::<36>(random, number);
     }
@@ -285,6 +289,8 @@ pub fn six_rows(random: &mut Random, number: usize) -> Vec<u32> {
     }
     words(&m)
 }
+
+const FIRST_SIX_ROWS: usize = 14;
 
 /// The identity, zeros, a zero of either sign as the pivot of each column, ties in the first column.
 fn first_six_rows(number: usize) -> Option<[f32; 36]> {
@@ -351,6 +357,7 @@ pub fn symmetric(random: &mut Random, number: usize) -> Vec<u32> {
         [1.0, 2.0, 3.0, 3.0e-4, 2.0e-4, 1.0e-4],
         [1.0, 2.0, 3.0, f32::NAN, 0.0, 0.0],
     ];
+    let number = again(random, number, FIRST.len());
     if let Some(&entries) = FIRST.get(number) {
         return symmetric_of(entries);
     }
@@ -474,6 +481,7 @@ pub fn extraction(random: &mut Random, number: usize) -> Vec<u32> {
             Rotation::from_xyzw(0.6, 0.0, 0.0, 0.8),
         ),
     ];
+    let number = again(random, number, first.len());
     if let Some(pair) = first.get(number) {
         return words_of(pair);
     }

@@ -1,7 +1,9 @@
 //! Elastic rows with their points, and the neo-Hookean energy's inputs. As for scalar rows, what `check` accepts is kept.
 
 use super::arithmetic::{near_rotation, unit_rotation};
-use super::numbers::{SPECIALS, finite_special, mixed, next, plain, previous, special, words};
+use super::numbers::{
+    SPECIALS, again, finite_special, mixed, next, plain, previous, special, words,
+};
 use super::scalar::{finite, four_places, head, ids, masses, points, put, unit_vector};
 use crate::dynamics::solver::soft_element_constraint::{
     NeoHookeanConstraint, SoftElasticConstraint, StrainMatrix, StrainVector, cofactor,
@@ -415,6 +417,7 @@ fn points_row<R: Row + Words>(
     number: usize,
     make: fn(&mut Random, usize) -> (Points, R),
 ) -> Vec<u32> {
+    let number = again(random, number, FIRST);
     let (points, mut row) = make(random, number);
     if number >= FIRST {
         if random.one_in(3) {
@@ -432,6 +435,7 @@ fn head_points_row<R: Row + Words>(
     number: usize,
     make: fn(&mut Random, usize) -> (Points, R),
 ) -> Vec<u32> {
+    let number = again(random, number, FIRST);
     let head = head(random, number);
     let (points, mut row) = make(random, number);
     if number >= FIRST && random.one_in(8) {
@@ -448,6 +452,7 @@ fn row_strain<M: Copy>(
 where
     ElasticRow<M>: Row + Words,
 {
+    let number = again(random, number, FIRST);
     let (points, mut row) = make(random, number);
     row = rows::update(&points, row);
     if random.one_in(8) {
@@ -511,6 +516,7 @@ pub fn gradient(random: &mut Random, number: usize) -> Vec<u32> {
         (2.0, 3.0, SVector([-1.0, -1.0, -1.0, 0.0, 0.0, 0.0])),
         (2.0, 3.0, SVector([0.5, 0.25, -0.125, 0.5, -0.25, 0.125])),
     ];
+    let number = again(random, number, first.len());
     if let Some(three) = first.get(number) {
         return words_of(three);
     }

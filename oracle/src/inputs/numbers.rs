@@ -103,6 +103,15 @@ pub fn mixed(random: &mut Random, n: usize) -> Vec<f32> {
     list
 }
 
+/// The number of an input; now and then one of the first `fixed`, which are made by hand, comes again.
+pub fn again(random: &mut Random, number: usize, fixed: usize) -> usize {
+    if number >= fixed && random.one_in(50) {
+        random.below(fixed)
+    } else {
+        number
+    }
+}
+
 /// The words of a list of numbers.
 pub fn words(list: &[f32]) -> Vec<u32> {
     list.iter().map(|&x| bits(x)).collect()
@@ -110,6 +119,7 @@ pub fn words(list: &[f32]) -> Vec<u32> {
 
 /// `N` numbers; the first inputs have each special value at some place.
 pub fn reals<const N: usize>(random: &mut Random, number: usize) -> Vec<u32> {
+    let number = again(random, number, SPECIALS.len());
     if N > 0 && number < SPECIALS.len() {
         let mut list: Vec<f32> = (0..N).map(|_| plain(random)).collect();
         list[number % N] = f32::from_bits(SPECIALS[number]);

@@ -5,8 +5,8 @@
 
 use super::arithmetic::bounds;
 use super::numbers::{
-    SPECIALS, finite_pattern, finite_special, mixed, next, plain, previous, small_whole, special,
-    words,
+    SPECIALS, again, finite_pattern, finite_special, mixed, next, plain, previous, small_whole,
+    special, words,
 };
 use crate::random::Random;
 use crate::rows::{self, Head, POINTS, Point, Points, ScalarRow};
@@ -202,6 +202,9 @@ fn dihedral_of(third: Vector, fourth: Vector) -> (Points, ScalarRow) {
     (points, row)
 }
 
+/// How many inputs are fixed: see `first_scalar`.
+const FIRST: usize = 20;
+
 /// Rows at the limits of the source's branches.
 fn first_scalar(number: usize) -> Option<(Points, ScalarRow)> {
     const SHORT: f32 = 1.0e-9;
@@ -321,11 +324,12 @@ fn spoil(random: &mut Random, row: ScalarRow, finite: bool) -> ScalarRow {
 
 /// A row alone, its positions as an update leaves them.
 pub fn scalar_row(random: &mut Random, number: usize) -> Vec<u32> {
+    let number = again(random, number, FIRST);
     let (points, mut row) = scalar(random, number);
-    if number < 20 || random.one_in(2) {
+    if number < FIRST || random.one_in(2) {
         row.pos = rows::update(&points, row).pos;
     }
-    if number >= 20 && random.one_in(16) {
+    if number >= FIRST && random.one_in(16) {
         row = spoil(random, row, false);
     }
     words_of(&row)
@@ -333,6 +337,7 @@ pub fn scalar_row(random: &mut Random, number: usize) -> Vec<u32> {
 
 /// A row as an update leaves it, and a least strain; often exactly the row's own.
 pub fn scalar_row_strain(random: &mut Random, number: usize) -> Vec<u32> {
+    let number = again(random, number, FIRST);
     let (points, mut row) = scalar(random, number);
     if !random.one_in(4) {
         row.kind = 0;
@@ -361,8 +366,9 @@ pub fn scalar_row_strain(random: &mut Random, number: usize) -> Vec<u32> {
 
 /// Points and a row: as they come, or after an update, now and then with one number spoilt.
 pub fn scalar_points_row(random: &mut Random, number: usize) -> Vec<u32> {
+    let number = again(random, number, FIRST);
     let (points, mut row) = scalar(random, number);
-    if number < 20 {
+    if number < FIRST {
         return words_of(&(points, row));
     }
     if random.one_in(2) {
@@ -376,7 +382,7 @@ pub fn scalar_points_row(random: &mut Random, number: usize) -> Vec<u32> {
 
 /// Mode, warm coefficient and least strain.
 pub fn head(random: &mut Random, number: usize) -> Head {
-    if number < 20 {
+    if number < FIRST {
         return Head {
             mode: if number < 3 {
                 1
@@ -404,9 +410,10 @@ pub fn head(random: &mut Random, number: usize) -> Head {
 
 /// What a run is asked for, points and a row, as `check` accepts them (but for velocities).
 pub fn scalar_head_points_row(random: &mut Random, number: usize) -> Vec<u32> {
+    let number = again(random, number, FIRST);
     let head = head(random, number);
     let (points, mut row) = scalar(random, number);
-    if number >= 20 && random.one_in(8) {
+    if number >= FIRST && random.one_in(8) {
         row = spoil(random, row, true);
     }
     words_of(&(head, points, row))
@@ -414,6 +421,7 @@ pub fn scalar_head_points_row(random: &mut Random, number: usize) -> Vec<u32> {
 
 /// Four positions and a rest angle.
 pub fn dihedral(random: &mut Random, number: usize) -> Vec<u32> {
+    let number = again(random, number, 10);
     // 6 to 15 are the dihedral rows of `first_scalar`.
     if let Some((points, row)) = first_scalar(number + 6).filter(|pair| pair.1.kind == 1) {
         return words_of(&(rows::update(&points, row).pos, row.rest));
