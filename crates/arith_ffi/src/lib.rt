@@ -2,3 +2,6 @@
 // A module for each crate whose functions are exported.
 mod of_real;
 mod of_root;
+mod of_shape;
+mod of_strain;
+mod of_vector;

@@ -50,7 +50,7 @@ pub extern "C" fn rt_acos(d: f32) -> f32
 
 // x % 6.2831855
 #[no_mangle]
-pub extern "C" fn rt_rem(x: f32) -> f32
+pub extern "C" fn rt_rem_turn(x: f32) -> f32
     ensures { λ r. ⌜ r ≡ sine.remTurn x ⌝ }
 {
     real::rem_turn(x)
