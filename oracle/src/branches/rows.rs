@@ -195,10 +195,12 @@ fn mark_total(after: &ScalarRow, tally: &mut Tally) {
     });
 }
 
-const STRAINED: [&str; 6] = [
+const STRAINED: [&str; 8] = [
     "not a distance",
     "erp_inv_dt not above 0",
+    "erp_inv_dt is 0",
     "rest not above 0",
+    "rest is 0",
     "error exactly the limit",
     "strained",
     "not strained",
@@ -221,9 +223,11 @@ fn mark_scalar_strained(row: &ScalarRow, least: Real, tally: &mut Tally) {
         return tally.hit("not a distance");
     }
     if !above_zero(row.erp_inv_dt) {
+        tally.hit_if(row.erp_inv_dt == 0.0, "erp_inv_dt is 0");
         return tally.hit("erp_inv_dt not above 0");
     }
     if !above_zero(row.rest) {
+        tally.hit_if(row.rest == 0.0, "rest is 0");
         return tally.hit("rest not above 0");
     }
     let error = (row.rhs / row.erp_inv_dt).abs();

@@ -203,7 +203,7 @@ fn dihedral_of(third: Vector, fourth: Vector) -> (Points, ScalarRow) {
 }
 
 /// How many inputs are fixed: see `first_scalar`.
-const FIRST: usize = 20;
+const FIRST: usize = 22;
 
 /// Rows at the limits of the source's branches.
 fn first_scalar(number: usize) -> Option<(Points, ScalarRow)> {
@@ -218,9 +218,10 @@ fn first_scalar(number: usize) -> Option<(Points, ScalarRow)> {
             (points, row)
         }
         2 => worked_distance(Vector::ZERO),
-        3 => worked_distance(x(SHORT)),
-        4 => worked_distance(x(next(SHORT))),
-        5 => worked_distance(x(previous(SHORT))),
+        // Not along x, which is the direction of a short edge.
+        3 => worked_distance(y(SHORT)),
+        4 => worked_distance(y(next(SHORT))),
+        5 => worked_distance(y(previous(SHORT))),
         // Four equal points.
         6 => {
             let (mut points, row) = dihedral_of(Vector::ZERO, Vector::ZERO);
@@ -257,6 +258,18 @@ fn first_scalar(number: usize) -> Option<(Points, ScalarRow)> {
             let (points, mut row) = worked_distance(x(2.0));
             row.impulse_bounds[0] = 0.75;
             row.impulse = f32::from_bits(1);
+            (points, row)
+        }
+        // Never strained, though the error is above any limit.
+        20 => {
+            let (points, mut row) = worked_distance(x(2.0));
+            row.rest = 0.0;
+            (points, row)
+        }
+        21 => {
+            let (points, mut row) = worked_distance(x(2.0));
+            row.erp_inv_dt = 0.0;
+            row.rhs = 1.0;
             (points, row)
         }
         _ => return None,
@@ -345,7 +358,15 @@ pub fn scalar_row_strain(random: &mut Random, number: usize) -> Vec<u32> {
         row.rest = row.rest.abs();
         row.erp_inv_dt = row.erp_inv_dt.abs();
     }
-    row = rows::update(&points, row);
+    // Without an update the error need not be 0 where `erp_inv_dt` is.
+    if number == 21 || random.one_in(8) {
+        row.erp_inv_dt = if random.one_in(2) { 0.0 } else { -0.0 };
+    } else {
+        row = rows::update(&points, row);
+    }
+    if random.one_in(8) {
+        row.rest = if random.one_in(2) { 0.0 } else { -0.0 };
+    }
     let own = (row.rhs / row.erp_inv_dt).abs() / row.rest;
     let least = match random.below(6) {
         0 => 0.0,
