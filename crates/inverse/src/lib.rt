@@ -7,7 +7,6 @@ ghost use Rattle.loops.specs.Loops.{upTo};
 ghost use Rattle.strain.specs.Matrix as matrix;
 ghost use Rattle.inverse.specs.Inverse as spec;
 ghost use Rattle.inverse.specs.Steps as steps;
-
 use real::abs;
 use real::pick;
 

@@ -4,7 +4,6 @@ ghost use Prim.Native.Nat.{_<_};
 ghost use Rattle.strain.specs.Columns as columns;
 ghost use Rattle.strain.specs.Matrix as matrix;
 ghost use Rattle.strain.specs.Six as six;
-
 use real::abs;
 
 // ---- six-vectors
