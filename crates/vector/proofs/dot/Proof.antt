@@ -1,4 +1,4 @@
--- `vector::dot` meets its contract. Assumes nothing.
+-- `vector::dot` meets its contract. It computes what the definition says. Assumes nothing.
 use mathlib.Core.Path.{refl}
 use Rattle.vector.specs.Vector.{dot}
 use Rattle.vector.proofs.dot.Statement.{statement}
