@@ -107,7 +107,7 @@ pub fn mat_vec(m: &[f32; 36], v: &[f32; 6]) -> [f32; 6]
     ]
 }
 
-pub fn column(m: &[f32; 36], j: usize) -> [f32; 6]
+fn column(m: &[f32; 36], j: usize) -> [f32; 6]
     requires { ⌜ j < 6 ⌝ }
     ensures { λ r. ⌜ r ≡ matrix.column (now (m .entry)) j ⌝ }
 {
