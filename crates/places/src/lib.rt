@@ -24,3 +24,11 @@ pub struct Masses {
     pub c: f32,
     pub d: f32,
 }
+
+// The ids of the four places.
+pub struct Ids {
+    pub a: u32,
+    pub b: u32,
+    pub c: u32,
+    pub d: u32,
+}
