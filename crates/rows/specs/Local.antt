@@ -12,7 +12,8 @@ use Rattle.relisting.specs.Build.{listed, work-local, then-local, choose-local,
 use Rattle.vector.specs.declared.Vec3.{Vec3}
 use Rattle.places.specs.declared.Holds.{Holds}
 use Rattle.scalar.specs.Row as s
-use Rattle.elastic.specs.Rows as e
+use Rattle.corotational.specs.Row as co
+use Rattle.neo_hookean.specs.Row as nh
 use Rattle.rows.specs.Row.{Row, Constraint, scalar, corotational, neoHookean, Key, keyOf, namesOf, massesOf, holdsOf, keepIf, inRange, lossesOf, four}
 use Rattle.rows.specs.Step.{updateOf, warmstartOf, solveOf, withConstraint, update, warm, solve, by, only, mainStep, resweepStep}
 
@@ -54,7 +55,7 @@ module _ (c : Constraint) where
     pub masses : massesOf d ≡ massesOf c
 
 update-keeps : (c : Constraint) (held : Holds) → Keeps c (updateOf c held)
-unfolding updateOf namesOf massesOf s.begin s.update s.withPeak e.updateC e.updateN
+unfolding updateOf namesOf massesOf s.begin s.update s.withPeak co.update nh.update
 update-keeps (scalar r) held = record { names = refl; masses = refl }
 update-keeps (corotational r) held = record { names = refl; masses = refl }
 update-keeps (neoHookean r) held = record { names = refl; masses = refl }

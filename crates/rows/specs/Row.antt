@@ -12,8 +12,8 @@ use Rattle.places.specs.declared.Holds.{Holds}
 use Rattle.places.specs.declared.Ids.{Ids}
 use Rattle.places.specs.declared.Masses.{Masses}
 use Rattle.scalar.specs.declared.SoftScalarConstraint.{SoftScalarConstraint}
-use Rattle.elastic.specs.declared.CorotationalRow.{CorotationalRow}
-use Rattle.elastic.specs.declared.NeoHookeanRow.{NeoHookeanRow}
+use Rattle.corotational.specs.declared.CorotationalRow.{CorotationalRow}
+use Rattle.neo_hookean.specs.declared.NeoHookeanRow.{NeoHookeanRow}
 
 pub data Constraint : Type 0 where
   scalar : SoftScalarConstraint → Constraint

@@ -10,9 +10,10 @@ use Rattle.vector.specs.declared.Four.{Four}
 use Rattle.places.specs.declared.Holds.{Holds}
 use Rattle.scalar.specs.Row as s
 use Rattle.scalar.specs.declared.Solved as ss
-use Rattle.elastic.specs.Rows as e
-use Rattle.elastic.specs.Cell as cell
-use Rattle.elastic.specs.declared.Solved as es
+use Rattle.corotational.specs.Row as c
+use Rattle.neo_hookean.specs.Row as n
+use Rattle.cell.specs.Cell as cell
+use Rattle.cell.specs.declared.Solved as es
 use Rattle.rows.specs.Row.{Row, Constraint, scalar, corotational, neoHookean, Key, keyOf, namesOf, holdsOf, lossesOf, four}
 
 -- ---- the constraint by its kind
@@ -20,8 +21,8 @@ use Rattle.rows.specs.Row.{Row, Constraint, scalar, corotational, neoHoo
 -- the row's part of an update; the scalar row notes its peak first
 unfoldable pub updateOf : Constraint → Holds → Constraint
 updateOf (scalar r) held = scalar (s.begin r held)
-updateOf (corotational r) held = corotational (e.updateC r held)
-updateOf (neoHookean r) held = neoHookean (e.updateN r held)
+updateOf (corotational r) held = corotational (c.update r held)
+updateOf (neoHookean r) held = neoHookean (n.update r held)
 
 unfoldable pub strainedOf : Constraint → Float → Bool
 strainedOf (scalar r) least = s.isStrained r least
@@ -35,13 +36,13 @@ pub record Done : Type 0 where
 
 unfoldable pub warmstartOf : Constraint → Float → Done
 warmstartOf (scalar r) k = record { constraint = scalar (s.warmstart r k .row); loss = s.warmstart r k .loss }
-warmstartOf (corotational r) k = record { constraint = corotational (e.withImpulsesC r (e.warmstartC r k .impulses)); loss = e.warmstartC r k .loss }
-warmstartOf (neoHookean r) k = record { constraint = neoHookean (e.withImpulsesN r (e.warmstartN r k .impulses)); loss = e.warmstartN r k .loss }
+warmstartOf (corotational r) k = record { constraint = corotational (c.withImpulses r (c.warmstart r k .impulses)); loss = c.warmstart r k .loss }
+warmstartOf (neoHookean r) k = record { constraint = neoHookean (n.withImpulses r (n.warmstart r k .impulses)); loss = n.warmstart r k .loss }
 
 unfoldable pub solveOf : Constraint → Holds → Done
 solveOf (scalar r) vel = record { constraint = scalar (s.solve r vel .row); loss = s.solve r vel .loss }
-solveOf (corotational r) vel = record { constraint = corotational (e.withImpulsesC r (e.solveC r vel .impulses)); loss = e.solveC r vel .loss }
-solveOf (neoHookean r) vel = record { constraint = neoHookean (e.withImpulsesN r (e.solveN r vel .impulses)); loss = e.solveN r vel .loss }
+solveOf (corotational r) vel = record { constraint = corotational (c.withImpulses r (c.solve r vel .impulses)); loss = c.solve r vel .loss }
+solveOf (neoHookean r) vel = record { constraint = neoHookean (n.withImpulses r (n.solve r vel .impulses)); loss = n.solve r vel .loss }
 
 abbrev pub withConstraint : Row → Constraint → Row
 withConstraint r c = record { colour = r .colour; strained = r .strained; ids = r .ids; constraint = c }

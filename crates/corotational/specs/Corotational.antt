@@ -15,14 +15,14 @@ use Rattle.linalg.specs.Products.{cofactor}
 use Rattle.places.specs.declared.Held.{Held}
 use Rattle.places.specs.declared.Holds.{Holds}
 use Rattle.places.specs.declared.Masses.{Masses}
-use Rattle.elastic.specs.Strain.{strainRowsOf, outerSum}
-use Rattle.elastic.specs.Cell.{capOf, capped, strainRates, volumeLosses}
-use Rattle.elastic.specs.declared.Cell.{Cell}
-use Rattle.elastic.specs.declared.Pose.{Pose}
-use Rattle.elastic.specs.declared.Springs.{Springs}
-use Rattle.elastic.specs.declared.Volume.{Volume}
-use Rattle.elastic.specs.declared.Impulses.{Impulses}
-use Rattle.elastic.specs.declared.Solved.{Solved}
+use Rattle.cell.specs.Strain.{strainRowsOf, outerSum}
+use Rattle.cell.specs.Cell.{capOf, capped, strainRates, volumeLosses}
+use Rattle.cell.specs.declared.Cell.{Cell}
+use Rattle.cell.specs.declared.Pose.{Pose}
+use Rattle.corotational.specs.declared.Springs.{Springs}
+use Rattle.corotational.specs.declared.Volume.{Volume}
+use Rattle.cell.specs.declared.Impulses.{Impulses}
+use Rattle.cell.specs.declared.Solved.{Solved}
 
 -- ---- update
 

@@ -1,10 +1,10 @@
 -- Strains as six numbers: the diagonal first, then (0, 1), (0, 2), (1, 2); and the sums over a cell's four places. As soft_elastic_constraint.rs has them. Definitions only. Assumes nothing.
-use Prim.Native.Nat.{ℕ, zero, suc, _+_, _*_, _/_, _%_}
+use Prim.Native.Nat.{ℕ}
 use mathlib.Core.Bool.{Bool, cond}
 use mathlib.Core.List.{List, [], _∷_}
 use lib.Dec.{eqb}
 use lib.Ieee.{Float}
-use Rattle.loops.specs.Fill.{tabulate}
+use Rattle.strain.specs.Matrix.{fromFn}
 use Rattle.real.specs.Float.{_⊕_, _⊗_, at, f0, f1, f½, f¼}
 use Rattle.vector.specs.Vector as v
 use Rattle.vector.specs.declared.Vec3.{Vec3}
@@ -72,15 +72,16 @@ abbrev pub part : Vec3 → ℕ → Float
 part a i = cond (eqb i 0) (a .x) (cond (eqb i 1) (a .y) (a .z))
 
 -- row i, column j
-abbrev pub entry : Mat3 → ℕ → ℕ → Float
-entry g i j = part (cond (eqb j 0) (g .x) (cond (eqb j 1) (g .y) (g .z))) i
+abbrev pub entry3 : Mat3 → ℕ → ℕ → Float
+entry3 g i j = part (cond (eqb j 0) (g .x) (cond (eqb j 1) (g .y) (g .z))) i
 
 -- rows r = (i, j) and s = (k, l): ¼ (δ_ik G_jl + δ_il G_jk + δ_jk G_il + δ_jl G_ik)
 unfoldable pub blockEntry : Mat3 → ℕ → ℕ → ℕ → ℕ → Float
-blockEntry g i j k l = f¼ ⊗ (delta i k ⊗ entry g j l ⊕ delta i l ⊗ entry g j k ⊕ delta j k ⊗ entry g i l ⊕ delta j l ⊗ entry g i k)
+blockEntry g i j k l = f¼ ⊗ (delta i k ⊗ entry3 g j l ⊕ delta i l ⊗ entry3 g j k ⊕ delta j k ⊗ entry3 g i l ⊕ delta j l ⊗ entry3 g i k)
 
-abbrev pub blockAt : Mat3 → ℕ → Float
-blockAt g e = blockEntry g (firstOf (e % 6)) (secondOf (e % 6)) (firstOf (e / 6)) (secondOf (e / 6))
+-- row r and column s of the block
+abbrev pub blockAt : Mat3 → ℕ → ℕ → Float
+blockAt g r s = blockEntry g (firstOf r) (secondOf r) (firstOf s) (secondOf s)
 
 unfoldable pub strainBlockFromG : Mat3 → List Float
-strainBlockFromG g = tabulate 36 (blockAt g)
+strainBlockFromG g = fromFn (blockAt g)

@@ -16,9 +16,9 @@ use Rattle.places.specs.declared.Held.{Held}
 use Rattle.places.specs.declared.Holds.{Holds}
 use Rattle.places.specs.declared.Masses.{Masses}
 use Rattle.places.specs.Places.{refreshed}
-use Rattle.elastic.specs.Strain.{strainRowsOf, strainTensor, outerSum}
-use Rattle.elastic.specs.declared.Cell.{Cell}
-use Rattle.elastic.specs.declared.Pose.{Pose}
+use Rattle.cell.specs.Strain.{strainRowsOf, strainTensor, outerSum}
+use Rattle.cell.specs.declared.Cell.{Cell}
+use Rattle.cell.specs.declared.Pose.{Pose}
 
 -- ---- update
 

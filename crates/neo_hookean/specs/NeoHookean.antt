@@ -9,16 +9,16 @@ use Rattle.strain.specs.Six.{add6, sub6, scale6}
 use Rattle.strain.specs.Matrix.{matVec, matMul, fromDiagonal, identity6, add36, scale36}
 use Rattle.strain.specs.Inverse.{tryInverse}
 use Rattle.places.specs.declared.Holds.{Holds}
-use Rattle.elastic.specs.Strain.{outerSum, weighted, strainBlockFromG}
-use Rattle.elastic.specs.Cell.{strainRates, strainLosses}
-use Rattle.elastic.specs.Hessian.{gradient, hessian}
-use Rattle.elastic.specs.declared.Cell.{Cell}
-use Rattle.elastic.specs.declared.Energy.{Energy}
-use Rattle.elastic.specs.declared.Material.{Material}
-use Rattle.elastic.specs.declared.Stiffness.{Stiffness}
-use Rattle.elastic.specs.declared.Impulses.{Impulses}
-use Rattle.elastic.specs.declared.Solved.{Solved}
-use Rattle.elastic.specs.declared.Block.{Block}
+use Rattle.cell.specs.Strain.{outerSum, weighted, strainBlockFromG}
+use Rattle.cell.specs.Cell.{strainRates, strainLosses}
+use Rattle.neo_hookean.specs.Hessian.{gradient, hessian}
+use Rattle.cell.specs.declared.Cell.{Cell}
+use Rattle.neo_hookean.specs.declared.Energy.{Energy}
+use Rattle.neo_hookean.specs.declared.Material.{Material}
+use Rattle.neo_hookean.specs.declared.Stiffness.{Stiffness}
+use Rattle.cell.specs.declared.Impulses.{Impulses}
+use Rattle.cell.specs.declared.Solved.{Solved}
+use Rattle.neo_hookean.specs.declared.Block.{Block}
 
 -- ---- update
 
