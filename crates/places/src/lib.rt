@@ -1,4 +1,5 @@
 // The four places of a row: their ids, what each holds, and their inverse masses.
+ghost use mathlib.Core.Bool.{cond};
 ghost use mathlib.Core.Path.{_≡_};
 ghost use Rattle.places.specs.Places as spec;
 use vector::Four;
@@ -31,6 +32,18 @@ pub struct Masses {
     pub b: f32,
     pub c: f32,
     pub d: f32,
+}
+
+pub fn pick_vec(b: bool, x: Vec3, y: Vec3) -> Vec3
+    ensures { λ r. ⌜ r ≡ cond b x y ⌝ }
+{
+    if b { x } else { y }
+}
+
+pub fn pick_four(b: bool, x: Four, y: Four) -> Four
+    ensures { λ r. ⌜ r ≡ cond b x y ⌝ }
+{
+    if b { x } else { y }
 }
 
 pub fn held_or(h: Held, v: Vec3) -> Vec3
