@@ -5,16 +5,14 @@ use Rattle.real.specs.Float.{_⊖_, _⊗_, _⊘_, f0, f1}
 use Rattle.real.specs.Acos.{acos}
 use Rattle.real.specs.Real.{clamp}
 use Rattle.root.specs.Root.{rootOf}
+use Rattle.shape.specs.Rotation.{nano}
 use Rattle.vector.specs.Vector as v
 use Rattle.vector.specs.declared.Vec3.{Vec3}
 use Rattle.vector.specs.declared.Four.{Four}
 use Rattle.scalar.specs.declared.Fold.{Fold}
 use Rattle.scalar.specs.declared.Gradients.{Gradients}
 
--- 1.0e-9 and 1.0e-6
-abbrev pub nano : Float
-nano = ofBits binary32 0x3089705f
-
+-- 1.0e-6
 abbrev pub micro : Float
 micro = ofBits binary32 0x358637bd
 

@@ -7,8 +7,9 @@ use Rattle.real.specs.Float.{_⊖_, f0, f1}
 use Rattle.vector.specs.Vector as v
 use Rattle.vector.specs.declared.Vec3.{Vec3}
 use Rattle.vector.specs.declared.Four.{Four}
+use Rattle.shape.specs.Rotation.{nano}
 use Rattle.shape.specs.Cell.{cellVolume, cellVolumeGradients}
-use Rattle.scalar.specs.Dihedral.{nano, dihedralGradients}
+use Rattle.scalar.specs.Dihedral.{dihedralGradients}
 use Rattle.scalar.specs.declared.Gradients.{Gradients}
 
 unfoldable pub unitX : Vec3
