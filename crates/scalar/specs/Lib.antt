@@ -2,3 +2,4 @@
 pub mod Dihedral
 pub mod Gradients
 pub mod Row
+pub mod Worked
