@@ -2,4 +2,5 @@
 pub mod Dihedral
 pub mod Gradients
 pub mod Row
+pub mod Laws
 pub mod Worked

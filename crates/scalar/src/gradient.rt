@@ -29,8 +29,9 @@ fn distance_gradients(pos: Four, grad: Four, rest: f32) -> Gradients
     let d = sub(pos.b, pos.a);
     let len = length(d);
     let n = pick_vec(1.0e-9 < len, divide(d, len), unit_x());
+    let back = neg(n);
     let mut g = grad;
-    g.a = neg(n);
+    g.a = back;
     g.b = n;
     Gradients {
         grad: g,

@@ -1,4 +1,4 @@
--- `places::pick_four` meets its contract. Assumes nothing.
+-- `places::pick_four` meets its contract. The test chooses the case. Assumes nothing.
 use mathlib.Core.Path.{refl}
 use Rattle.places.proofs.pick_four.Statement.{statement}
 use Rattle.places.proofs.pick_four.Tie as tie

@@ -1,4 +1,4 @@
--- `scalar::begin` meets its contract. Assumes nothing.
+-- `scalar::begin` meets its contract. Its calls are the definition's. Assumes nothing.
 use borrow.Author.Needs.{needs}
 use Rattle.scalar.specs.Row.{begin}
 use Rattle.scalar.proofs.begin.Statement.{statement}

@@ -1,4 +1,4 @@
--- `scalar::closing` meets its contract. Assumes nothing.
+-- `scalar::closing` meets its contract. Its calls are the definition's. Assumes nothing.
 use borrow.Author.Needs.{needs}
 use Rattle.scalar.proofs.closing.Statement.{statement}
 use Rattle.scalar.proofs.closing.Tie as tie

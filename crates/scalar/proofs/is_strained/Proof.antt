@@ -1,4 +1,4 @@
--- `scalar::is_strained` meets its contract. Assumes nothing.
+-- `scalar::is_strained` meets its contract. Its calls are the definition's. Assumes nothing.
 use borrow.Author.Needs.{needs}
 use Rattle.scalar.specs.Row.{isStrained}
 use Rattle.scalar.proofs.is_strained.Statement.{statement}

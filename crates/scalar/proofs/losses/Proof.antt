@@ -1,4 +1,4 @@
--- `scalar::losses` meets its contract. Assumes nothing.
+-- `scalar::losses` meets its contract. Its calls are the definition's. Assumes nothing.
 use borrow.Author.Needs.{needs}
 use Rattle.scalar.specs.Row.{losses}
 use Rattle.scalar.proofs.losses.Statement.{statement}

@@ -1,4 +1,4 @@
--- `scalar::rate_of` meets its contract. Assumes nothing.
+-- `scalar::rate_of` meets its contract. Its calls are the definition's. Assumes nothing.
 use borrow.Author.Needs.{needs}
 use Rattle.scalar.specs.Row.{rateOf}
 use Rattle.scalar.proofs.rate_of.Statement.{statement}

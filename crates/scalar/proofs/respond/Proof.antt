@@ -1,4 +1,4 @@
--- `scalar::respond` meets its contract. Assumes nothing.
+-- `scalar::respond` meets its contract. Its calls are the definition's. Assumes nothing.
 use borrow.Author.Needs.{needs}
 use Rattle.scalar.specs.Row.{respond}
 use Rattle.scalar.proofs.respond.Statement.{statement}

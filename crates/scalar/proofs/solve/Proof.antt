@@ -1,4 +1,4 @@
--- `scalar::solve` meets its contract. Assumes nothing.
+-- `scalar::solve` meets its contract. Its calls are the definition's. Assumes nothing.
 use borrow.Author.Needs.{needs}
 use Rattle.scalar.specs.Row.{solve}
 use Rattle.scalar.proofs.solve.Statement.{statement}

@@ -1,4 +1,4 @@
--- `scalar::sought_of` meets its contract. Assumes nothing.
+-- `scalar::sought_of` meets its contract. It computes what the definition says. Assumes nothing.
 use mathlib.Core.Path.{refl}
 use Rattle.scalar.specs.Row.{soughtOf}
 use Rattle.scalar.proofs.sought_of.Statement.{statement}

@@ -1,4 +1,4 @@
--- `scalar::total_of` meets its contract. Assumes nothing.
+-- `scalar::total_of` meets its contract. Its calls are the definition's. Assumes nothing.
 use borrow.Author.Needs.{needs}
 use Rattle.scalar.specs.Row.{totalOf}
 use Rattle.scalar.proofs.total_of.Statement.{statement}

@@ -1,4 +1,4 @@
--- `scalar::update` meets its contract. Assumes nothing.
+-- `scalar::update` meets its contract. Its calls are the definition's. Assumes nothing.
 use borrow.Author.Needs.{needs}
 use Rattle.scalar.specs.Row.{update}
 use Rattle.scalar.proofs.update.Statement.{statement}

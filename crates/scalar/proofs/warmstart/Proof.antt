@@ -1,4 +1,4 @@
--- `scalar::warmstart` meets its contract. Assumes nothing.
+-- `scalar::warmstart` meets its contract. Its calls are the definition's. Assumes nothing.
 use borrow.Author.Needs.{needs}
 use Rattle.scalar.specs.Row.{warmstart}
 use Rattle.scalar.proofs.warmstart.Statement.{statement}

@@ -1,4 +1,4 @@
--- `scalar::weigh` meets its contract. Assumes nothing.
+-- `scalar::weigh` meets its contract. Its calls are the definition's. Assumes nothing.
 use borrow.Author.Needs.{needs}
 use Rattle.scalar.proofs.weigh.Statement.{statement}
 use Rattle.scalar.proofs.weigh.Tie as tie

@@ -1,4 +1,4 @@
--- `scalar::weight_of` meets its contract. Assumes nothing.
+-- `scalar::weight_of` meets its contract. Its calls are the definition's. Assumes nothing.
 use borrow.Author.Needs.{needs}
 use Rattle.scalar.specs.Row.{weightOf}
 use Rattle.scalar.proofs.weight_of.Statement.{statement}

@@ -1,4 +1,4 @@
--- `scalar::with_peak` meets its contract. Assumes nothing.
+-- `scalar::with_peak` meets its contract. Its calls are the definition's. Assumes nothing.
 use borrow.Author.Needs.{needs}
 use Rattle.scalar.specs.Row.{withPeak}
 use Rattle.scalar.proofs.with_peak.Statement.{statement}

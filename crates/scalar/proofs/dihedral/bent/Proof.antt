@@ -1,4 +1,4 @@
--- `scalar::dihedral::bent` meets its contract. Assumes nothing.
+-- `scalar::dihedral::bent` meets its contract. Its calls are the definition's. Assumes nothing.
 use borrow.Author.Needs.{needs}
 use Rattle.scalar.specs.Dihedral.{bent}
 use Rattle.scalar.proofs.dihedral.bent.Statement.{statement}

@@ -1,4 +1,4 @@
--- `scalar::dihedral::dihedral_gradients` meets its contract. Assumes nothing.
+-- `scalar::dihedral::dihedral_gradients` meets its contract. The test of the areas chooses the definition's case. Assumes nothing.
 use borrow.Author.Needs.{needs}
 use Rattle.scalar.specs.Dihedral.{dihedralGradients}
 use Rattle.scalar.proofs.dihedral.dihedral_gradients.Statement.{statement}

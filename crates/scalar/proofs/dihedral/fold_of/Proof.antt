@@ -1,4 +1,4 @@
--- `scalar::dihedral::fold_of` meets its contract. Assumes nothing.
+-- `scalar::dihedral::fold_of` meets its contract. Its calls are the definition's. Assumes nothing.
 use borrow.Author.Needs.{needs}
 use Rattle.scalar.specs.Dihedral.{foldOf}
 use Rattle.scalar.proofs.dihedral.fold_of.Statement.{statement}

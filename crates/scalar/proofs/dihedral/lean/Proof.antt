@@ -1,4 +1,4 @@
--- `scalar::dihedral::lean` meets its contract. Assumes nothing.
+-- `scalar::dihedral::lean` meets its contract. Its calls are the definition's. Assumes nothing.
 use borrow.Author.Needs.{needs}
 use Rattle.scalar.specs.Dihedral.{lean}
 use Rattle.scalar.proofs.dihedral.lean.Statement.{statement}

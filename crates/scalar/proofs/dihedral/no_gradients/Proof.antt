@@ -1,4 +1,4 @@
--- `scalar::dihedral::no_gradients` meets its contract. Assumes nothing.
+-- `scalar::dihedral::no_gradients` meets its contract. Its calls are the definition's. Assumes nothing.
 use borrow.Author.Needs.{needs}
 use Rattle.scalar.specs.Dihedral.{noGradients}
 use Rattle.scalar.proofs.dihedral.no_gradients.Statement.{statement}

@@ -1,4 +1,4 @@
--- `scalar::dihedral::q2` meets its contract. Assumes nothing.
+-- `scalar::dihedral::q2` meets its contract. Its calls are the definition's. Assumes nothing.
 use borrow.Author.Needs.{needs}
 use Rattle.scalar.specs.Dihedral.{q2}
 use Rattle.scalar.proofs.dihedral.q2.Statement.{statement}

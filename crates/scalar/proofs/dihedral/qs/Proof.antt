@@ -1,4 +1,4 @@
--- `scalar::dihedral::qs` meets its contract. Assumes nothing.
+-- `scalar::dihedral::qs` meets its contract. Its calls are the definition's. Assumes nothing.
 use borrow.Author.Needs.{needs}
 use Rattle.scalar.specs.Dihedral.{qs}
 use Rattle.scalar.proofs.dihedral.qs.Statement.{statement}

@@ -1,4 +1,4 @@
--- `scalar::dihedral::scale_four` meets its contract. Assumes nothing.
+-- `scalar::dihedral::scale_four` meets its contract. Its calls are the definition's. Assumes nothing.
 use borrow.Author.Needs.{needs}
 use Rattle.scalar.specs.Dihedral.{scaleFour}
 use Rattle.scalar.proofs.dihedral.scale_four.Statement.{statement}

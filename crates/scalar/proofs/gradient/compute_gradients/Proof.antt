@@ -1,4 +1,4 @@
--- `scalar::gradient::compute_gradients` meets its contract. Assumes nothing.
+-- `scalar::gradient::compute_gradients` meets its contract. The tests of the type choose the definition's case. Assumes nothing.
 use borrow.Author.Needs.{needs}
 use borrow.Author.Tests.{eq-eqb, ne-eqb}
 use Rattle.scalar.specs.Gradients.{computeGradients}

@@ -1,4 +1,4 @@
--- `scalar::gradient::distance_gradients` meets its contract. Assumes nothing.
+-- `scalar::gradient::distance_gradients` meets its contract. Its calls are the definition's. Assumes nothing.
 use borrow.Author.Needs.{needs}
 use Rattle.scalar.specs.Gradients.{distanceGradients}
 use Rattle.scalar.proofs.gradient.distance_gradients.Statement.{statement}

@@ -1,4 +1,4 @@
--- `scalar::gradient::unit_x` meets its contract. Assumes nothing.
+-- `scalar::gradient::unit_x` meets its contract. It computes what the definition says. Assumes nothing.
 use mathlib.Core.Path.{refl}
 use Rattle.scalar.specs.Gradients.{unitX}
 use Rattle.scalar.proofs.gradient.unit_x.Statement.{statement}

@@ -1,4 +1,4 @@
--- `scalar::gradient::volume_gradients` meets its contract. Assumes nothing.
+-- `scalar::gradient::volume_gradients` meets its contract. Its calls are the definition's. Assumes nothing.
 use borrow.Author.Needs.{needs}
 use Rattle.scalar.specs.Gradients.{volumeGradients}
 use Rattle.scalar.proofs.gradient.volume_gradients.Statement.{statement}
