@@ -6,11 +6,13 @@ use vector::Four;
 use vector::Vec3;
 
 // What a place holds: a position or a velocity. A place that is not named (its id is 0xFFFFFFFF, or it lies past a scalar row's count) is skipped.
+#[repr(C)]
 pub struct Held {
     pub named: bool,
     pub value: Vec3,
 }
 
+#[repr(C)]
 pub struct Holds {
     pub a: Held,
     pub b: Held,
@@ -19,6 +21,7 @@ pub struct Holds {
 }
 
 // The ids of the four places.
+#[repr(C)]
 pub struct Ids {
     pub a: u32,
     pub b: u32,
@@ -27,6 +30,7 @@ pub struct Ids {
 }
 
 // The inverse masses of the four places.
+#[repr(C)]
 pub struct Masses {
     pub a: f32,
     pub b: f32,

@@ -74,6 +74,11 @@ module _ (r : SoftScalarConstraint) (held : Holds) where
   unfolding begin update respond withPeak
   peak-first = refl
 
+  -- an update leaves the impulse, so that the peak would be the same after it
+  pub peak-after : withPeak (update r held) ≡ update (withPeak r) held
+  unfolding update respond withPeak
+  peak-after = refl
+
   pub impulse-kept : begin r held .response .impulse ≡ r .response .impulse
   unfolding begin update respond withPeak
   impulse-kept = refl

@@ -60,9 +60,9 @@ fn lean(p: Vec3, n: Vec3, m: Vec3, d: f32) -> Vec3
 fn q2(f: Fold, d: f32) -> Vec3
     ensures { λ r. ⌜ r ≡ spec.q2 f d ⌝ }
 {
-    let near = lean(f.p2, f.n2, f.n1, d);
-    let far = lean(f.p3, f.n1, f.n2, d);
-    sub(divide(neg(near), f.l1), divide(far, f.l2))
+    let first = lean(f.p2, f.n2, f.n1, d);
+    let second = lean(f.p3, f.n1, f.n2, d);
+    sub(divide(neg(first), f.l1), divide(second, f.l2))
 }
 
 fn qs(f: Fold, d: f32) -> Four
@@ -90,6 +90,7 @@ fn scale_four(q: Four, k: f32) -> Four
     }
 }
 
+// Of triangles with an area.
 fn bent(f: Fold, rest: f32) -> Gradients
     ensures { λ r. ⌜ r ≡ spec.bent f rest ⌝ }
 {

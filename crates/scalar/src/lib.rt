@@ -1,7 +1,7 @@
 // The scalar row of soft_scalar_constraint.rs: its update, its warm start, its solve and the test for strain. No row function sees a frame: what the row's
 // places hold goes in, and what each is to lose comes out.
-mod dihedral; // the angle between two triangles
-mod gradient; // the value and the gradients of each type
+pub mod dihedral; // the angle between two triangles
+pub mod gradient; // the value and the gradients of each type
 
 ghost use mathlib.Core.Path.{_≡_};
 ghost use Rattle.scalar.specs.Row as spec;
@@ -28,7 +28,7 @@ pub struct Spring {
     pub upper: f32,
 }
 
-// What an update, a warm start and a solve assign.
+// What the steps assign.
 #[repr(C)]
 pub struct Response {
     pub inv_lhs: f32,
@@ -51,12 +51,14 @@ pub struct SoftScalarConstraint {
 }
 
 // A row's gradients and its error.
+#[repr(C)]
 pub struct Gradients {
     pub grad: Four,
     pub error: f32,
 }
 
 // Two triangles with a common edge, from particle 0 to particle 1: the edges from particle 0, the unit normals, and the lengths that these had.
+#[repr(C)]
 pub struct Fold {
     pub p1: Vec3,
     pub p2: Vec3,
@@ -68,6 +70,7 @@ pub struct Fold {
 }
 
 // The row anew, and what each place is to lose.
+#[repr(C)]
 pub struct Solved {
     pub row: SoftScalarConstraint,
     pub loss: Four,
@@ -75,6 +78,7 @@ pub struct Solved {
 
 // ---- update
 
+// The sum goes on where the place is counted. Both sides are computed: no operation on floats traps, and there is no branch.
 fn weigh(count: u32, k: u32, g: Vec3, im: f32, w: f32) -> f32
     ensures { λ r. ⌜ r ≡ spec.weigh count k g im w ⌝ }
 {
@@ -127,7 +131,7 @@ pub fn is_strained(r: SoftScalarConstraint, least: f32) -> bool
         & (abs(r.response.rhs / r.spring.erp_inv_dt) > least * r.spring.rest)
 }
 
-// ---- warm start and solve
+// ---- warm start and solve. The parts are public for who has no use for a whole row.
 
 fn with_impulse(r: SoftScalarConstraint, x: f32) -> SoftScalarConstraint
     ensures { λ q. ⌜ q ≡ spec.withImpulse r x ⌝ }
@@ -137,7 +141,7 @@ fn with_impulse(r: SoftScalarConstraint, x: f32) -> SoftScalarConstraint
     q
 }
 
-fn losses(grad: Four, im: Masses, impulse: f32) -> Four
+pub fn losses(grad: Four, im: Masses, impulse: f32) -> Four
     ensures { λ r. ⌜ r ≡ spec.losses grad im impulse ⌝ }
 {
     Four {
@@ -164,7 +168,7 @@ fn closing(h: Held, g: Vec3, dc: f32) -> f32
     pick(h.named, dc + dot(g, h.value), dc)
 }
 
-fn rate_of(grad: Four, vel: Holds) -> f32
+pub fn rate_of(grad: Four, vel: Holds) -> f32
     ensures { λ r. ⌜ r ≡ spec.rateOf grad vel ⌝ }
 {
     let a = closing(vel.a, grad.a, 0.0);
@@ -173,13 +177,14 @@ fn rate_of(grad: Four, vel: Holds) -> f32
     closing(vel.d, grad.d, c)
 }
 
-fn sought_of(s: Response, dc: f32) -> f32
+// Before the bounds.
+pub fn sought_of(s: Response, dc: f32) -> f32
     ensures { λ r. ⌜ r ≡ spec.soughtOf s dc ⌝ }
 {
     s.impulse + s.inv_lhs * (dc + s.rhs - s.cfm_gain * s.impulse)
 }
 
-fn total_of(p: Spring, s: Response, dc: f32) -> f32
+pub fn total_of(p: Spring, s: Response, dc: f32) -> f32
     ensures { λ r. ⌜ r ≡ spec.totalOf p s dc ⌝ }
 {
     clamp(sought_of(s, dc), p.lower, p.upper)
