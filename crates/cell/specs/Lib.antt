@@ -1,3 +1,3 @@
 -- What both elastic rows share. Assumes nothing.
 pub mod Strain
-pub mod Cell
+pub mod Columns

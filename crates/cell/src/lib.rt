@@ -1,4 +1,6 @@
 // What both elastic rows share: strains in six coordinates, the update of positions, rotation and strain, and what impulses take from each place.
+pub mod tensor; // strains in six coordinates and as tensors
+
 use places::Masses;
 use vector::Four;
 use vector::Mat3;
