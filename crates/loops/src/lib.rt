@@ -1,2 +1,2 @@
-// Counted loops and lists filled by index: the laws are in specs/. A crate has at least one function.
-pub fn nothing() {}
+// Laws on loops, lists and tables of examples, which stand in specs/. There is no code to prove here, but a crate has at least one function.
+fn nothing() {}

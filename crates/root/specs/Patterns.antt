@@ -1,14 +1,14 @@
 -- What number a positive finite pattern of binary32 stands for: `val b` units of 2 ^ -149. Assumes nothing.
-use Prim.Native.Nat.{ℕ, zero, suc, _+_, _-_, _*_, _/_, _%_, _^_, _<_, _≤_}
-use mathlib.Core.Path.{_≡_, refl, sym, ap, _∙_, subst}
-use mathlib.Core.Bool.{Bool, true, false, cond}
-use native.Mathlib.Nat.{mod-eq-of-lt, add-comm, mul-one}
+use Prim.Native.Nat.{ℕ, zero, suc, _+_, _-_, _*_, _/_, _%_, _^_, _<_}
+use mathlib.Core.Path.{_≡_, refl, sym, subst}
+use mathlib.Core.Bool.{false, cond}
+use native.Mathlib.Nat.{mod-eq-of-lt, mul-one}
 use native.Mathlib.Omega.{arith}
 use lib.Dec.{eqb, leb}
 use lib.Ieee.{Float, nan, inf, binary32, odd, ofFields, ofBits}
 use lib.Ieee.Exact.{HasValue, odd-sign}
 use Rattle.loops.specs.Loops.{cond-no}
-use borrow.Author.Tests.{eq-eqb, ne-eqb, lt-leb}
+use borrow.Author.Tests.{ne-eqb, lt-leb}
 use Rattle.root.specs.Nearest.{val}
 
 ofBits-is : (b : ℕ) → ofBits binary32 b ≡ ofFields binary32 (leb 2147483648 b) (b % 2147483648 / 8388608) (b % 8388608)

@@ -5,6 +5,8 @@ ghost use Rattle.strain.specs.Columns as columns;
 ghost use Rattle.strain.specs.Matrix as matrix;
 ghost use Rattle.strain.specs.Six as six;
 
+use real::abs;
+
 // ---- six-vectors
 
 pub fn add6(a: &[f32; 6], b: &[f32; 6]) -> [f32; 6]
@@ -58,6 +60,30 @@ pub fn dot6(a: &[f32; 6], b: &[f32; 6]) -> f32
     a[0] * b[0] + a[1] * b[1] + a[2] * b[2] + a[3] * b[3] + a[4] * b[4] + a[5] * b[5]
 }
 
+// Whether no part's magnitude is above the limit; a NaN is above it.
+pub fn all_within6(a: &[f32; 6], limit: f32) -> bool
+    ensures { λ r. ⌜ r ≡ six.allWithin6 (now (a .entry)) limit ⌝ }
+{
+    (abs(a[0]) <= limit)
+        & (abs(a[1]) <= limit)
+        & (abs(a[2]) <= limit)
+        & (abs(a[3]) <= limit)
+        & (abs(a[4]) <= limit)
+        & (abs(a[5]) <= limit)
+}
+
+// Whether some part's magnitude is above the limit; a NaN is not.
+pub fn any_above6(a: &[f32; 6], limit: f32) -> bool
+    ensures { λ r. ⌜ r ≡ six.anyAbove6 (now (a .entry)) limit ⌝ }
+{
+    (abs(a[0]) > limit)
+        | (abs(a[1]) > limit)
+        | (abs(a[2]) > limit)
+        | (abs(a[3]) > limit)
+        | (abs(a[4]) > limit)
+        | (abs(a[5]) > limit)
+}
+
 // ---- products
 
 // Row i of m times v.
@@ -107,32 +133,52 @@ pub fn set_column(m: &mut [f32; 36], j: usize, c: &[f32; 6])
     m[k + 5] = c[5];
 }
 
+// Column j of the product: a matrix times a column. It has one caller, and so is inlined into its loop.
+fn product_column(a: &[f32; 36], b: &[f32; 36], j: usize) -> [f32; 6]
+    requires { ⌜ j < 6 ⌝ }
+    ensures { λ r. ⌜ r ≡ matrix.matVec (now (a .entry)) (matrix.column (now (b .entry)) j) ⌝ }
+{
+    let v = column(b, j);
+    [
+        row_dot(a, 0, &v),
+        row_dot(a, 1, &v),
+        row_dot(a, 2, &v),
+        row_dot(a, 3, &v),
+        row_dot(a, 4, &v),
+        row_dot(a, 5, &v),
+    ]
+}
+
 pub fn mat_mul(a: &[f32; 36], b: &[f32; 36]) -> [f32; 36]
     ensures { λ r. ⌜ r ≡ matrix.matMul (now (a .entry)) (now (b .entry)) ⌝ }
 {
     let mut r = [0.0f32; 36];
     for j in 0usize..6 {
-        let v = column(b, j);
-        let c = mat_vec(a, &v);
+        let c = product_column(a, b, j);
         set_column(&mut r, j, &c);
     }
     r
 }
 
-// Column j of what `ger` makes.
+// Entry (i, j) of what `ger` makes.
+fn ger_at(factor: f32, w: &[f32; 6], m: &[f32; 36], i: usize, j: usize) -> f32
+    requires { ⌜ (i < 6) × (j < 6) ⌝ }
+    ensures { λ r. ⌜ r ≡ matrix.gerAt factor (now (w .entry)) (now (m .entry)) i j ⌝ }
+{
+    factor * w[j] * w[i] + m[j * 6 + i]
+}
+
 fn ger_column(factor: f32, w: &[f32; 6], m: &[f32; 36], j: usize) -> [f32; 6]
     requires { ⌜ j < 6 ⌝ }
     ensures { λ r. ⌜ r ≡ columns.columnOf (matrix.gerAt factor (now (w .entry)) (now (m .entry))) j ⌝ }
 {
-    let x = factor * w[j];
-    let k = j * 6;
     [
-        x * w[0] + m[k],
-        x * w[1] + m[k + 1],
-        x * w[2] + m[k + 2],
-        x * w[3] + m[k + 3],
-        x * w[4] + m[k + 4],
-        x * w[5] + m[k + 5],
+        ger_at(factor, w, m, 0, j),
+        ger_at(factor, w, m, 1, j),
+        ger_at(factor, w, m, 2, j),
+        ger_at(factor, w, m, 3, j),
+        ger_at(factor, w, m, 4, j),
+        ger_at(factor, w, m, 5, j),
     ]
 }
 

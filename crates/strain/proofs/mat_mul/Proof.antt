@@ -1,7 +1,6 @@
--- `strain::mat_mul` meets its contract. A column of the product is a matrix times a column. Assumes nothing.
+-- `strain::mat_mul` meets its contract. A column a turn. Assumes nothing.
 use borrow.Author.Needs.{needs}
 use Prim.Native.Nat.{_-_}
-use mathlib.Core.Path.{_∙_, ap}
 use Rattle.strain.specs.Columns.{Columns, columns-none, columns-more, columns-all}
 use Rattle.strain.specs.Matrix.{productAt, matVec, matMul}
 use Rattle.strain.proofs.mat_mul.Statement.{statement}
@@ -16,11 +15,8 @@ abbrev μ-loop : tie.MeasureT-loop
 loop-holds : tie.Need-loop-holds Inv-loop μ-loop
 loop-holds c = columns-none (search needs)
 
-column-requires : tie.Need-column-requires Inv-loop μ-loop
-column-requires c κs = search needs
-
-mat-vec-requires : tie.Need-mat-vec-requires Inv-loop μ-loop
-mat-vec-requires c κs = search needs
+product-column-requires : tie.Need-product-column-requires Inv-loop μ-loop
+product-column-requires c κs = search needs
 
 set-column-requires : tie.Need-set-column-requires Inv-loop μ-loop
 set-column-requires c κs = search needs
@@ -33,7 +29,7 @@ loop-less c = search needs
 
 loop-again : tie.Need-loop-again Inv-loop μ-loop
 unfolding matVec
-loop-again c = columns-more (c .before .before .before .before .before .before .before .loop .inv) (search needs) (c .set-column .ensures) (c .before .before .before .mat-vec .ensures ∙ ap (matVec _) (c .before .before .before .before .before .column .ensures))
+loop-again c = columns-more (c .before .before .before .before .before .loop .inv) (search needs) (c .set-column .ensures) (c .before .before .before .product-column .ensures)
 
 returns : tie.Need-returns Inv-loop μ-loop
 unfolding matMul
@@ -46,8 +42,7 @@ mat-mul-spec =
     Inv-loop
     μ-loop
     loop-holds
-    column-requires
-    mat-vec-requires
+    product-column-requires
     set-column-requires
     add-j
     loop-less

@@ -1,0 +1,59 @@
+-- `shape::rotation::extract_rotation` meets its contract. Before turn i what is still to come of q is the definition's answer. Assumes nothing.
+use borrow.Author.Needs.{needs}
+use Prim.Native.Nat.{_-_}
+use Rattle.loops.specs.Loops.{Coming, coming-none, coming-more, coming-stop, coming-end}
+use Rattle.shape.specs.Rotation.{settled, next, extractRotation}
+use Rattle.shape.proofs.rotation.extract_rotation.Statement.{statement}
+use Rattle.shape.proofs.rotation.extract_rotation.Tie as tie
+
+abbrev Inv-loop : tie.InvT-loop
+Inv-loop a q₀ i₀ q i = Coming 8 (settled a) (next a) q₀ i q
+
+abbrev μ-loop : tie.MeasureT-loop
+μ-loop a q₀ i₀ q i = 8 - i
+
+loop-holds : tie.Need-loop-holds Inv-loop μ-loop
+loop-holds c = coming-none
+
+omega-requires : tie.Need-omega-requires Inv-loop μ-loop
+omega-requires c κs = search needs
+
+length-requires : tie.Need-length-requires Inv-loop μ-loop
+length-requires c κs = search needs
+
+turned-requires : tie.Need-turned-requires Inv-loop μ-loop
+turned-requires c κs = search needs
+
+add-i : tie.Need-add-i Inv-loop μ-loop
+add-i c = search needs
+
+loop-less : tie.Need-loop-less Inv-loop μ-loop
+loop-less c = search needs
+
+loop-again : tie.Need-loop-again Inv-loop μ-loop
+unfolding settled next
+loop-again c = coming-more (c .before .before .before .before .before .loop .inv) (search needs) (cc) (cc)
+
+returns : tie.Need-returns Inv-loop μ-loop
+unfolding extractRotation
+returns c = coming-end (c .before .loop .inv) (search needs)
+
+returns-2 : tie.Need-returns-2 Inv-loop μ-loop
+unfolding settled extractRotation
+returns-2 c = coming-stop (c .before .before .before .before .loop .inv) (search needs) (cc)
+
+pub extract-rotation-spec : {M : Type 1} → statement M
+extract-rotation-spec =
+    tie.close
+    (tie.spec
+    Inv-loop
+    μ-loop
+    loop-holds
+    omega-requires
+    length-requires
+    turned-requires
+    add-i
+    loop-less
+    loop-again
+    returns
+    returns-2)
