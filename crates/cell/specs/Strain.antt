@@ -1,8 +1,9 @@
 -- Strains as six numbers: the diagonal first, then (0, 1), (0, 2), (1, 2); and the sums over a cell's four places. As soft_elastic_constraint.rs has them. Definitions only. Assumes nothing.
 use Prim.Native.Nat.{ℕ}
-use mathlib.Core.Bool.{Bool, cond}
+use mathlib.Core.Bool.{cond}
 use mathlib.Core.List.{List, [], _∷_}
 use lib.Dec.{eqb}
+use lib.ListN.{getD}
 use lib.Ieee.{Float}
 use Rattle.strain.specs.Matrix.{fromFn}
 use Rattle.real.specs.Float.{_⊕_, _⊗_, at, f0, f1, f½, f¼}
@@ -15,11 +16,11 @@ use Rattle.places.specs.declared.Masses.{Masses}
 -- ½ (m_ab + m_ba)
 unfoldable pub strainRowsOf : Mat3 → List Float
 strainRowsOf m =
-    m .x .x ∷ m .y .y ∷ m .z .z ∷ f½ ⊗ (m .y .x ⊕ m .x .y) ∷ f½ ⊗ (m .z .x ⊕ m .x .z) ∷ f½ ⊗ (m .z .y ⊕ m .y .z) ∷ []
+    m .x .x ∷ m .y .y ∷ m .z .z ∷ (f½ ⊗ (m .y .x ⊕ m .x .y)) ∷ (f½ ⊗ (m .z .x ⊕ m .x .z)) ∷ (f½ ⊗ (m .z .y ⊕ m .y .z)) ∷ []
 
 -- m_aa, and m_ab + m_ba
 unfoldable pub strainRowsDual : Mat3 → List Float
-strainRowsDual m = m .x .x ∷ m .y .y ∷ m .z .z ∷ m .y .x ⊕ m .x .y ∷ m .z .x ⊕ m .x .z ∷ m .z .y ⊕ m .y .z ∷ []
+strainRowsDual m = m .x .x ∷ m .y .y ∷ m .z .z ∷ (m .y .x ⊕ m .x .y) ∷ (m .z .x ⊕ m .x .z) ∷ (m .z .y ⊕ m .y .z) ∷ []
 
 -- λ on the diagonal, and half of it on both entries of the others
 unfoldable pub strainTensor : List Float → Mat3
@@ -57,12 +58,12 @@ weighted c im = record { a = v.scale (c .a) (im .a); b = v.scale (c .b) (im .b);
 
 -- ---- the effective-mass block, from G = Σ w_p c_p c_pᵀ
 
--- the pair (i, j) of strain row r
+-- the pair (i, j) of strain row r: `strain_pairs`
 abbrev pub firstOf : ℕ → ℕ
-firstOf r = cond (eqb r 1) 1 (cond (eqb r 2) 2 (cond (eqb r 5) 1 0))
+firstOf r = getD (0 ∷ 1 ∷ 2 ∷ 0 ∷ 0 ∷ 1 ∷ []) r 0
 
 abbrev pub secondOf : ℕ → ℕ
-secondOf r = cond (eqb r 0) 0 (cond (eqb r 1) 1 (cond (eqb r 3) 1 2))
+secondOf r = getD (0 ∷ 1 ∷ 2 ∷ 1 ∷ 2 ∷ 2 ∷ []) r 0
 
 abbrev pub delta : ℕ → ℕ → Float
 delta i j = cond (eqb i j) f1 f0
@@ -71,15 +72,18 @@ delta i j = cond (eqb i j) f1 f0
 abbrev pub part : Vec3 → ℕ → Float
 part a i = cond (eqb i 0) (a .x) (cond (eqb i 1) (a .y) (a .z))
 
+abbrev pub col : Mat3 → ℕ → Vec3
+col g j = cond (eqb j 0) (g .x) (cond (eqb j 1) (g .y) (g .z))
+
 -- row i, column j
 abbrev pub entry3 : Mat3 → ℕ → ℕ → Float
-entry3 g i j = part (cond (eqb j 0) (g .x) (cond (eqb j 1) (g .y) (g .z))) i
+entry3 g i j = part (col g j) i
 
--- rows r = (i, j) and s = (k, l): ¼ (δ_ik G_jl + δ_il G_jk + δ_jk G_il + δ_jl G_ik)
-unfoldable pub blockEntry : Mat3 → ℕ → ℕ → ℕ → ℕ → Float
+-- ¼ (δ_ik G_jl + δ_il G_jk + δ_jk G_il + δ_jl G_ik): each δ, 0 or 1, multiplies
+abbrev pub blockEntry : Mat3 → ℕ → ℕ → ℕ → ℕ → Float
 blockEntry g i j k l = f¼ ⊗ (delta i k ⊗ entry3 g j l ⊕ delta i l ⊗ entry3 g j k ⊕ delta j k ⊗ entry3 g i l ⊕ delta j l ⊗ entry3 g i k)
 
--- row r and column s of the block
+-- row r = (i, j) and column s = (k, l) of the block
 abbrev pub blockAt : Mat3 → ℕ → ℕ → Float
 blockAt g r s = blockEntry g (firstOf r) (secondOf r) (firstOf s) (secondOf s)
 

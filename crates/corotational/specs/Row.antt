@@ -10,24 +10,28 @@ use Rattle.corotational.specs.declared.CorotationalRow.{CorotationalRow}
 
 unfoldable pub update : CorotationalRow → Holds → CorotationalRow
 update r held =
+    let cell = r .cell in
     let pos = refreshed held (r .pose .pos) in
-    let f = deformationGradient pos (r .cell .«inv_rest_matrix») in
-    let pose = posed (r .cell) (r .pose) pos f in
+    let f = deformationGradient pos (cell .«inv_rest_matrix») in
+    let pose = posed (cell .«strain_cap») (r .pose .rotation) pos f in
     record {
-      cell = r .cell;
+      cell = cell;
       pose = pose;
       «inv_a» = r .«inv_a»;
       impulses = r .impulses;
       springs = r .springs;
-      volume = updateVolume (r .cell) (r .springs) (r .«inv_a») pose f;
+      volume = updateVolume (cell .«inv_rest_matrix») (cell .coeffs) (cell .im) (r .springs) (r .«inv_a») (pose .«rot_mat») (pose .inverted) f;
     }
 
+-- what a warm start and a solve assign
 abbrev pub withImpulses : CorotationalRow → Impulses → CorotationalRow
 withImpulses r l = record { cell = r .cell; pose = r .pose; «inv_a» = r .«inv_a»; impulses = l; springs = r .springs; volume = r .volume }
 
 -- the impulses anew, and what each place is to lose
 unfoldable pub solve : CorotationalRow → Holds → Solved
-solve r vel = solveCorotational (r .cell) (r .pose .«rot_mat») (r .pose .strain) (r .«inv_a») (r .impulses) (r .springs) (r .volume) vel
+solve r vel =
+    solveCorotational (r .pose .«rot_mat») (r .cell .coeffs) (r .cell .im) (r .pose .strain) (r .«inv_a») (r .springs .«erp_strain») (r .springs .«cfm_strain»)
+    (r .impulses) (r .volume) vel
 
 unfoldable pub warmstart : CorotationalRow → Float → Solved
-warmstart r coeff = warmstartCorotational (r .cell) (r .pose .«rot_mat») (r .impulses) (r .volume) coeff
+warmstart r coeff = warmstartCorotational (r .pose .«rot_mat») (r .cell .coeffs) (r .cell .im) (r .impulses) (r .volume .«grad_vol») coeff
