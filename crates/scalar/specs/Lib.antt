@@ -1,0 +1,3 @@
+-- The scalar row. Assumes nothing.
+pub mod Gradients
+pub mod Row
