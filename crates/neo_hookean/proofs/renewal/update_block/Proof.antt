@@ -1,41 +1,31 @@
+-- `neo_hookean::renewal::update_block` meets its contract. Assumes nothing.
 use borrow.Author.Needs.{needs}
+use Rattle.neo_hookean.specs.NeoHookean.{updateBlock}
 use Rattle.neo_hookean.proofs.renewal.update_block.Statement.{statement}
 use Rattle.neo_hookean.proofs.renewal.update_block.Tie as tie
-use Rattle.neo_hookean.proofs.renewal.update_block.Reads as reads
-use Rattle.neo_hookean.proofs.renewal.update_block.Lts as lts
-use Rattle.neo_hookean.proofs.hessian.gradient.Reads as gradient-reads
-use Rattle.neo_hookean.proofs.renewal.is_fresh.Reads as is-fresh-reads
-use Rattle.neo_hookean.proofs.renewal.kept.Reads as kept-reads
-use Rattle.neo_hookean.proofs.renewal.renewed.Reads as renewed-reads
-use Rattle.strain.proofs.scale6.Reads as scale6-reads
 
--- src/renewal.rt:108:9
 gradient-requires : tie.Need-gradient-requires
 gradient-requires c κs = search needs
 
--- src/renewal.rt:110:19
 scale6-requires : tie.Need-scale6-requires
 scale6-requires c κs = search needs
 
--- src/renewal.rt:111:8
 is-fresh-requires : tie.Need-is-fresh-requires
 is-fresh-requires c κs = search needs
 
--- src/renewal.rt:112:9
 kept-requires : tie.Need-kept-requires
 kept-requires c κs = search needs
 
--- src/renewal.rt:112:9
 returns : tie.Need-returns
-returns c = ?
+unfolding updateBlock
+returns c = rw (← c .before .before .before .is-fresh .ensures, c .before .before .if1 .taken) (cc)
 
--- src/renewal.rt:114:5
 renewed-requires : tie.Need-renewed-requires
 renewed-requires c κs = search needs
 
--- src/renewal.rt:97:1
 returns-2 : tie.Need-returns-2
-returns-2 c = ?
+unfolding updateBlock
+returns-2 c = rw (← c .before .before .before .is-fresh .ensures, c .before .before .if1 .left) (cc)
 
 pub update-block-spec : {M : Type 1} → statement M
 update-block-spec =
