@@ -2,3 +2,4 @@
 pub mod Hessian
 pub mod NeoHookean
 pub mod Row
+pub mod Worked
