@@ -6,12 +6,13 @@ use scalar::Solved;
 use vector::Four;
 
 ghost use mathlib.Core.Path.{_≡_};
+ghost use Rattle.scalar.specs.Dihedral as dihedral;
 ghost use Rattle.scalar.specs.Gradients as gradients;
 ghost use Rattle.scalar.specs.Row as spec;
 
 #[no_mangle]
 pub extern "C" fn rt_dihedral_gradients(pos: Four, rest: f32) -> Gradients
-    ensures { λ t. ⌜ t ≡ gradients.dihedralGradients pos rest ⌝ }
+    ensures { λ t. ⌜ t ≡ dihedral.dihedralGradients pos rest ⌝ }
 {
     scalar::dihedral::dihedral_gradients(pos, rest)
 }
