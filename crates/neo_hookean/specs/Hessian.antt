@@ -83,21 +83,22 @@ withScaling nu q v k =
     ger (nu .z) (modeOf t0 t1 t2 (v .z)) (ger (nu .y) (modeOf t0 t1 t2 (v .y)) (ger (nu .x) (modeOf t0 t1 t2 (v .x)) k))
 
 -- the stiffness of a flip, at least 2μ, with r the stretch of the axis that remains
-unfoldable pub flipped : Float → Float → Float → Float
-flipped mu kappa r = max (mu ⊖ kappa ⊗ other r) (f2 ⊗ mu)
+unfoldable pub flipStiffness : Float → Float → Float → Float
+flipStiffness mu kappa r = max (mu ⊖ kappa ⊗ other r) (f2 ⊗ mu)
 
 -- k and h u uᵀ for the flip of axes a and b: u = √2 (a bᵀ) : ε
-unfoldable pub withFlip : Float → Vec3 → Vec3 → List Float → List Float
-withFlip h a b k = ger h (scale6 (strainRowsDual (outerProduct a b)) (rootOf f2)) k
+unfoldable pub withFlip : Float → Vec3 → Vec3 → Float → List Float → List Float
+withFlip h a b sqrt2 k = ger h (scale6 (strainRowsDual (outerProduct a b)) sqrt2) k
 
 -- the pairs (0, 1), (0, 2) and (1, 2), in this order
 unfoldable pub withFlips : Float → Float → Eigen → List Float → List Float
 withFlips mu kappa e k =
+    let sqrt2 = rootOf f2 in
     let sigma = e .values in
     let q = e .vectors in
-    withFlip (flipped mu kappa (sigma .x)) (q .y) (q .z)
-    (withFlip (flipped mu kappa (sigma .y)) (q .x) (q .z)
-    (withFlip (flipped mu kappa (sigma .z)) (q .x) (q .y) k))
+    withFlip (flipStiffness mu kappa (sigma .x)) (q .y) (q .z) sqrt2
+    (withFlip (flipStiffness mu kappa (sigma .y)) (q .x) (q .z) sqrt2
+    (withFlip (flipStiffness mu kappa (sigma .z)) (q .x) (q .y) sqrt2 k))
 
 unfoldable pub hessian : Float → Float → Mat3 → Float → List Float
 hessian mu lambda s kappa =

@@ -130,29 +130,30 @@ fn with_scaling(nu: Vec3, q: Mat3, v: Mat3, k: &[f32; 36]) -> [f32; 36]
 }
 
 // A flip's stiffness, with r the stretch of the remaining axis.
-fn flipped(mu: f32, kappa: f32, r: f32) -> f32
-    ensures { λ h. ⌜ h ≡ spec.flipped mu kappa r ⌝ }
+fn flip_stiffness(mu: f32, kappa: f32, r: f32) -> f32
+    ensures { λ h. ⌜ h ≡ spec.flipStiffness mu kappa r ⌝ }
 {
     real::max(mu - kappa * (1.0 * r), 2.0 * mu)
 }
 
 // The flip of axes a and b.
-fn with_flip(h: f32, a: Vec3, b: Vec3, k: &[f32; 36]) -> [f32; 36]
-    ensures { λ r. ⌜ r ≡ spec.withFlip h a b (now (k .entry)) ⌝ }
+fn with_flip(h: f32, a: Vec3, b: Vec3, sqrt2: f32, k: &[f32; 36]) -> [f32; 36]
+    ensures { λ r. ⌜ r ≡ spec.withFlip h a b sqrt2 (now (k .entry)) ⌝ }
 {
     let d = strain_rows_dual(outer_product(a, b));
-    let u = scale6(&d, root::root(2.0));
+    let u = scale6(&d, sqrt2);
     ger(h, &u, k)
 }
 
 fn with_flips(mu: f32, kappa: f32, e: Eigen, k: &[f32; 36]) -> [f32; 36]
     ensures { λ r. ⌜ r ≡ spec.withFlips mu kappa e (now (k .entry)) ⌝ }
 {
+    let sqrt2 = root::root(2.0);
     let sigma = e.values;
     let q = e.vectors;
-    let k1 = with_flip(flipped(mu, kappa, sigma.z), q.x, q.y, k);
-    let k2 = with_flip(flipped(mu, kappa, sigma.y), q.x, q.z, &k1);
-    with_flip(flipped(mu, kappa, sigma.x), q.y, q.z, &k2)
+    let k1 = with_flip(flip_stiffness(mu, kappa, sigma.z), q.x, q.y, sqrt2, k);
+    let k2 = with_flip(flip_stiffness(mu, kappa, sigma.y), q.x, q.z, sqrt2, &k1);
+    with_flip(flip_stiffness(mu, kappa, sigma.x), q.y, q.z, sqrt2, &k2)
 }
 
 pub fn hessian(mu: f32, lambda: f32, s: Mat3, kappa: f32) -> [f32; 36]

@@ -1,4 +1,4 @@
--- `neo_hookean::solve` meets its contract. Assumes nothing.
+-- `neo_hookean::solve` meets its contract. Its call is the definition's, on the row's parts. Assumes nothing.
 use borrow.Author.Needs.{needs}
 use Rattle.neo_hookean.specs.Row.{solve}
 use Rattle.neo_hookean.proofs.solve.Statement.{statement}

@@ -1,4 +1,4 @@
--- `neo_hookean::update` meets its contract. Assumes nothing.
+-- `neo_hookean::update` meets its contract. Its calls are the definition's. Assumes nothing.
 use borrow.Author.Needs.{needs}
 use Rattle.neo_hookean.specs.Row.{update}
 use Rattle.neo_hookean.proofs.update.Statement.{statement}

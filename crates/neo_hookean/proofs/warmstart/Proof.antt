@@ -1,4 +1,4 @@
--- `neo_hookean::warmstart` meets its contract. Assumes nothing.
+-- `neo_hookean::warmstart` meets its contract. Its call is the definition's, on the row's parts. Assumes nothing.
 use borrow.Author.Needs.{needs}
 use Rattle.neo_hookean.specs.Row.{warmstart}
 use Rattle.neo_hookean.proofs.warmstart.Statement.{statement}

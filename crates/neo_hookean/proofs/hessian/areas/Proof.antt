@@ -1,4 +1,4 @@
--- `neo_hookean::hessian::areas` meets its contract. Assumes nothing.
+-- `neo_hookean::hessian::areas` meets its contract. It computes what the definition says. Assumes nothing.
 use Rattle.neo_hookean.specs.Hessian.{areas}
 use Rattle.neo_hookean.proofs.hessian.areas.Statement.{statement}
 use Rattle.neo_hookean.proofs.hessian.areas.Tie as tie

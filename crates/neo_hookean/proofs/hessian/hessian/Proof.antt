@@ -1,4 +1,4 @@
--- `neo_hookean::hessian::hessian` meets its contract. Assumes nothing.
+-- `neo_hookean::hessian::hessian` meets its contract. Its calls are the definition's. Assumes nothing.
 use borrow.Author.Needs.{needs}
 use Rattle.neo_hookean.specs.Hessian.{hessian}
 use Rattle.neo_hookean.proofs.hessian.hessian.Statement.{statement}

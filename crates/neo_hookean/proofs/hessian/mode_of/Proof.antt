@@ -1,4 +1,4 @@
--- `neo_hookean::hessian::mode_of` meets its contract. Assumes nothing.
+-- `neo_hookean::hessian::mode_of` meets its contract. Its calls are the definition's. Assumes nothing.
 use borrow.Author.Needs.{needs}
 use Rattle.neo_hookean.specs.Hessian.{modeOf}
 use Rattle.neo_hookean.proofs.hessian.mode_of.Statement.{statement}

@@ -1,4 +1,4 @@
--- `neo_hookean::hessian::principal_hessian` meets its contract. Assumes nothing.
+-- `neo_hookean::hessian::principal_hessian` meets its contract. Its calls are the definition's. Assumes nothing.
 use borrow.Author.Needs.{needs}
 use mathlib.Core.Path.{refl}
 use Rattle.neo_hookean.specs.Hessian.{principalHessian}

@@ -1,4 +1,4 @@
--- `neo_hookean::hessian::scaling` meets its contract. Assumes nothing.
+-- `neo_hookean::hessian::scaling` meets its contract. Its calls are the definition's. Assumes nothing.
 use borrow.Author.Needs.{needs}
 use Rattle.neo_hookean.specs.Hessian.{scaling}
 use Rattle.neo_hookean.proofs.hessian.scaling.Statement.{statement}

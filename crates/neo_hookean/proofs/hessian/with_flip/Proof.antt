@@ -1,4 +1,4 @@
--- `neo_hookean::hessian::with_flip` meets its contract. Assumes nothing.
+-- `neo_hookean::hessian::with_flip` meets its contract. Its calls are the definition's. Assumes nothing.
 use borrow.Author.Needs.{needs}
 use Rattle.neo_hookean.specs.Hessian.{withFlip}
 use Rattle.neo_hookean.proofs.hessian.with_flip.Statement.{statement}
@@ -9,9 +9,6 @@ outer-product-requires c κs = search needs
 
 strain-rows-dual-requires : tie.Need-strain-rows-dual-requires
 strain-rows-dual-requires c κs = search needs
-
-root-requires : tie.Need-root-requires
-root-requires c κs = search needs
 
 scale6-requires : tie.Need-scale6-requires
 scale6-requires c κs = search needs
@@ -29,7 +26,6 @@ with-flip-spec =
     (tie.spec
     outer-product-requires
     strain-rows-dual-requires
-    root-requires
     scale6-requires
     ger-requires
     returns)

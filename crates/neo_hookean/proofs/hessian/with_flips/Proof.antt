@@ -1,23 +1,26 @@
--- `neo_hookean::hessian::with_flips` meets its contract. Assumes nothing.
+-- `neo_hookean::hessian::with_flips` meets its contract. Its calls are the definition's. Assumes nothing.
 use borrow.Author.Needs.{needs}
 use Rattle.neo_hookean.specs.Hessian.{withFlips}
 use Rattle.neo_hookean.proofs.hessian.with_flips.Statement.{statement}
 use Rattle.neo_hookean.proofs.hessian.with_flips.Tie as tie
 
-flipped-requires : tie.Need-flipped-requires
-flipped-requires c κs = search needs
+root-requires : tie.Need-root-requires
+root-requires c κs = search needs
+
+flip-stiffness-requires : tie.Need-flip-stiffness-requires
+flip-stiffness-requires c κs = search needs
 
 with-flip-requires : tie.Need-with-flip-requires
 with-flip-requires c κs = search needs
 
-flipped-requires-2 : tie.Need-flipped-requires-2
-flipped-requires-2 c κs = search needs
+flip-stiffness-requires-2 : tie.Need-flip-stiffness-requires-2
+flip-stiffness-requires-2 c κs = search needs
 
 with-flip-requires-2 : tie.Need-with-flip-requires-2
 with-flip-requires-2 c κs = search needs
 
-flipped-requires-3 : tie.Need-flipped-requires-3
-flipped-requires-3 c κs = search needs
+flip-stiffness-requires-3 : tie.Need-flip-stiffness-requires-3
+flip-stiffness-requires-3 c κs = search needs
 
 with-flip-requires-3 : tie.Need-with-flip-requires-3
 with-flip-requires-3 c κs = search needs
@@ -30,10 +33,11 @@ pub with-flips-spec : {M : Type 1} → statement M
 with-flips-spec =
     tie.close
     (tie.spec
-    flipped-requires
+    root-requires
+    flip-stiffness-requires
     with-flip-requires
-    flipped-requires-2
+    flip-stiffness-requires-2
     with-flip-requires-2
-    flipped-requires-3
+    flip-stiffness-requires-3
     with-flip-requires-3
     returns)

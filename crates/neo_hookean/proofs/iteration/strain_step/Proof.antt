@@ -1,4 +1,4 @@
--- `neo_hookean::iteration::strain_step` meets its contract. Assumes nothing.
+-- `neo_hookean::iteration::strain_step` meets its contract. Its calls are the definition's. Assumes nothing.
 use borrow.Author.Needs.{needs}
 use Rattle.neo_hookean.specs.NeoHookean.{strainStep}
 use Rattle.neo_hookean.proofs.iteration.strain_step.Statement.{statement}

@@ -1,4 +1,4 @@
--- `neo_hookean::iteration::warmstart_neo_hookean` meets its contract. Assumes nothing.
+-- `neo_hookean::iteration::warmstart_neo_hookean` meets its contract. Its calls are the definition's. Assumes nothing.
 use borrow.Author.Needs.{needs}
 use Rattle.neo_hookean.specs.NeoHookean.{warmstartNeoHookean}
 use Rattle.neo_hookean.proofs.iteration.warmstart_neo_hookean.Statement.{statement}

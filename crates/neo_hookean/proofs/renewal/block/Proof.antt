@@ -1,4 +1,4 @@
--- `neo_hookean::renewal::block` meets its contract. Assumes nothing.
+-- `neo_hookean::renewal::block` meets its contract. Its calls are the definition's. Assumes nothing.
 use borrow.Author.Needs.{needs}
 use Rattle.neo_hookean.specs.NeoHookean.{block}
 use Rattle.neo_hookean.proofs.renewal.block.Statement.{statement}

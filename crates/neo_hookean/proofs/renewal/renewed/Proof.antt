@@ -1,4 +1,4 @@
--- `neo_hookean::renewal::renewed` meets its contract. Assumes nothing.
+-- `neo_hookean::renewal::renewed` meets its contract. Its calls are the definition's. Assumes nothing.
 use borrow.Author.Needs.{needs}
 use Rattle.neo_hookean.specs.NeoHookean.{renewed}
 use Rattle.neo_hookean.proofs.renewal.renewed.Statement.{statement}

@@ -1,4 +1,4 @@
--- `neo_hookean::renewal::stiffness_matrix` meets its contract. Assumes nothing.
+-- `neo_hookean::renewal::stiffness_matrix` meets its contract. Its calls are the definition's. Assumes nothing.
 use borrow.Author.Needs.{needs}
 use Rattle.neo_hookean.specs.NeoHookean.{stiffnessMatrix}
 use Rattle.neo_hookean.proofs.renewal.stiffness_matrix.Statement.{statement}

@@ -1,4 +1,4 @@
--- `neo_hookean::renewal::strain_block` meets its contract. Assumes nothing.
+-- `neo_hookean::renewal::strain_block` meets its contract. Its calls are the definition's. Assumes nothing.
 use borrow.Author.Needs.{needs}
 use Rattle.neo_hookean.specs.NeoHookean.{strainBlock}
 use Rattle.neo_hookean.proofs.renewal.strain_block.Statement.{statement}

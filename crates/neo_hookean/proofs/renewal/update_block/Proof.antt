@@ -1,6 +1,6 @@
--- `neo_hookean::renewal::update_block` meets its contract. Assumes nothing.
+-- `neo_hookean::renewal::update_block` meets its contract. Each way is a case of the definition. Assumes nothing.
 use borrow.Author.Needs.{needs}
-use Rattle.neo_hookean.specs.NeoHookean.{updateBlock}
+use Rattle.neo_hookean.specs.Renewal.{stays, moves}
 use Rattle.neo_hookean.proofs.renewal.update_block.Statement.{statement}
 use Rattle.neo_hookean.proofs.renewal.update_block.Tie as tie
 
@@ -17,15 +17,13 @@ kept-requires : tie.Need-kept-requires
 kept-requires c κs = search needs
 
 returns : tie.Need-returns
-unfolding updateBlock
-returns c = rw (← c .before .before .before .is-fresh .ensures, c .before .before .if1 .taken) (cc)
+returns c = search stays
 
 renewed-requires : tie.Need-renewed-requires
 renewed-requires c κs = search needs
 
 returns-2 : tie.Need-returns-2
-unfolding updateBlock
-returns-2 c = rw (← c .before .before .before .is-fresh .ensures, c .before .before .if1 .left) (cc)
+returns-2 c = search moves
 
 pub update-block-spec : {M : Type 1} → statement M
 update-block-spec =
