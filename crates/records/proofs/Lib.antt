@@ -4,3 +4,4 @@ pub mod Firsts
 pub mod Runs
 pub mod ByKind
 pub mod Shapes
+pub mod Values
