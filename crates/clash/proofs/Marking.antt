@@ -151,12 +151,12 @@ unfolding markRow markOf
 marked-row n ms qs r h w = elim (ℕ-discrete (le16 r 6) 65535) [
   | yes e ↦ record { size = simp (colour-names r, eq-eqb (le16 r 6) 65535 e) (w .size); marks = λ p l. simp (colour-names r, colour-key r, eq-eqb (le16 r 6) 65535 e) (w .marks p l) }
   | no e ↦ (
-    let z = w .size in
-    record {
-      size = simp (colour-names r, ne-eqb (le16 r 6) 65535 e) (all-size n (four (namesOf r)) ms (le16 r 6 + 1) ∙ z);
-      marks = λ p l. simp (colour-names r, colour-key r, ne-eqb (le16 r 6) 65535 e)
-        (all-at n (four (namesOf r)) ms (le16 r 6 + 1) p (omega arith) l
-        ∙ ap (λ (t : Bool). cond t (le16 r 6 + 1) (getD ms p 0)) (any-named (eqb p) (ne-eqb p 4294967295 (λ y. omega arith)) r)
-        ∙ ap (λ (x : ℕ). cond (anyOf (eqb p) (keyOf r .ids)) (le16 r 6 + 1) x) (w .marks p l))
-    })
+      let z = w .size in
+      record {
+        size = simp (colour-names r, ne-eqb (le16 r 6) 65535 e) (all-size n (four (namesOf r)) ms (le16 r 6 + 1) ∙ z);
+        marks = λ p l. simp (colour-names r, colour-key r, ne-eqb (le16 r 6) 65535 e)
+            (all-at n (four (namesOf r)) ms (le16 r 6 + 1) p (omega arith) l
+            ∙ ap (λ (t : Bool). cond t (le16 r 6 + 1) (getD ms p 0)) (any-named (eqb p) (ne-eqb p 4294967295 (λ y. omega arith)) r)
+            ∙ ap (λ (x : ℕ). cond (anyOf (eqb p) (keyOf r .ids)) (le16 r 6 + 1) x) (w .marks p l));
+      })
 ]

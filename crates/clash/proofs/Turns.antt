@@ -69,7 +69,7 @@ begins n s k at₀ h p = record {
   going = rest-begin k (seen at₀ []);
   left = subst (λ (j : ℕ). Passed (recordsTests Row j s at₀ 0)) (sym (sub-zero k)) p;
   marked = no-marks n h;
-  falling = below-any 0
+  falling = below-any 0;
 }
 
 module _ {n : ℕ} {s : List ℕ} {k at₀ i off : ℕ} {ms : List ℕ} (w : Clashing n s k at₀ i off ms) (h : i < k) where
@@ -112,9 +112,9 @@ module _ {n : ℕ} {s : List ℕ} {k at₀ i off : ℕ} {ms : List ℕ} (w : Cla
           going = rest-again (seen off′ (keyOf (recordAt s off) ∷ w .keys)) (w .going) h (λ j. simp (sym same ∙ z, o));
           left = subst (λ (x : ℕ). Passed (recordsTests Row (k - (i + 1)) s x (le16 s (off + 6)))) (sym o) (turn .1);
           marked = subst (λ (l : List ℕ). Marked n l (keyOf (recordAt s off) ∷ w .keys)) (sym (m ∙ ap (markRow n ms) (eq ∙ ap namesOf e)))
-            (marked-row n ms (w .keys) (recordAt s off) few (w .marked));
+              (marked-row n ms (w .keys) (recordAt s off) few (w .marked));
           falling = below-cons (keyOf (recordAt s off)) (w .keys) (w .last) (le16 s (off + 6)) (w .falling)
-            (omega (arith, colour-key (recordAt s off), rises)) (omega (arith, colour-key (recordAt s off), row-colour s off (w .last) (here .0)))
+              (omega (arith, colour-key (recordAt s off), rises)) (omega (arith, colour-key (recordAt s off), row-colour s off (w .last) (here .0)));
         }
 
 pub ends : {n : ℕ} {s : List ℕ} {k at₀ i off : ℕ} {ms : List ℕ} {r : Answer} → Clashing n s k at₀ i off ms → k ≤ i → r ≡ refuseIf false 0 0 → r ≡ firstOf (clashTests n k s at₀ [])

@@ -24,7 +24,7 @@ countOf b = cond (eqb (le16 b kindAt) 3) (le16 b scalarCount) 4
 unfoldable pub keyOf : List ℕ → Key
 keyOf b = record {
   colour = le16 b rowColour;
-  ids = take (countOf b) (le32 b rowIds ∷ le32 b (rowIds + 4) ∷ le32 b (rowIds + 8) ∷ le32 b (rowIds + 12) ∷ [])
+  ids = take (countOf b) (le32 b rowIds ∷ le32 b (rowIds + 4) ∷ le32 b (rowIds + 8) ∷ le32 b (rowIds + 12) ∷ []);
 }
 
 unfoldable pub anyOf : {A : Type 0} → (A → Bool) → List A → Bool

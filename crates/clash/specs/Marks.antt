@@ -19,7 +19,7 @@ namesOf b = record {
   a = placed (ltb 0 (countOf b)) (le32 b 14);
   b = placed (ltb 1 (countOf b)) (le32 b 18);
   c = placed (ltb 2 (countOf b)) (le32 b 22);
-  d = placed (ltb 3 (countOf b)) (le32 b 26)
+  d = placed (ltb 3 (countOf b)) (le32 b 26);
 }
 
 abbrev pub four : Names → List ℕ

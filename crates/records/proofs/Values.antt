@@ -50,7 +50,7 @@ head-values b c k p =
       few-points = limit32-is b 6 4096 (l .0);
       few-rows = limit32-is b 10 4096 (m .0);
       mode = code-is b 14 3 (passed-split (code b 14 3) _ (x .1) .0);
-      resweeps = limit16-is b 16 64 (m .1)
+      resweeps = limit16-is b 16 64 (m .1);
     }
 
 -- ---- a row: the tests before the last are of the row alone, and the last is of its colour
