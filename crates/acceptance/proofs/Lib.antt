@@ -1,0 +1,3 @@
+-- The theorems on check's answers. Assumes nothing.
+pub mod Parsing
+pub mod Wholes

@@ -1,0 +1,2 @@
+-- What check's answers say of a frame. Assumes nothing.
+pub mod Whole
