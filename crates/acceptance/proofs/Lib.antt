@@ -1,3 +1,5 @@
 -- The theorems on check's answers. Assumes nothing.
 pub mod Parsing
 pub mod Wholes
+pub mod Pairs
+pub mod Relistings

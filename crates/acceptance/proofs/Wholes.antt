@@ -75,7 +75,7 @@ whole s p =
 
 -- ---- and back
 
-head-length : (b : List ℕ) → Good Head 0 b → length b ≡ 26
+pub head-length : (b : List ℕ) → Good Head 0 b → length b ≡ 26
 head-length b g = go (good-kind Head 0 b g)
   where
     go : Kind Head (le16 b 4) (le32 b 0) → length b ≡ 26
