@@ -41,7 +41,7 @@ unfolding anyOf
 any-no t [] h = refl
 any-no t (y ∷ l) h = simp (h y (List·Memᴰ·head refl)) (any-no t l (λ x m. h x (List·Memᴰ·tail m)))
 
-clash-apart : (N : ℕ) (before : List Key) (k : Key) → clashes N before k ≡ false → (q : Key) → List·Memᴰ q before → Apart N q k
+pub clash-apart : (N : ℕ) (before : List Key) (k : Key) → clashes N before k ≡ false → (q : Key) → List·Memᴰ q before → Apart N q k
 unfolding clashes namedBy
 clash-apart N before k e q m c o x h mk mq =
     let e1 : anyOf (λ x. ltb x N && anyOf (namedBy (k .colour) x) before) (k .ids) ≡ false =
@@ -52,7 +52,7 @@ clash-apart N before k e q m c o x h mk mq =
       ap (λ (t : Bool). t && anyOf (eqb x) (q .ids)) (sym (eq-eqb (q .colour) (k .colour) c)) ∙ no-any (namedBy (k .colour) x) before e2 q m in
     eqb-false x x (no-any (eqb x) (q .ids) e3 x mq) refl
 
-apart-clash : (N : ℕ) (before : List Key) (k : Key) → ((q : Key) → List·Memᴰ q before → Apart N q k) → clashes N before k ≡ false
+pub apart-clash : (N : ℕ) (before : List Key) (k : Key) → ((q : Key) → List·Memᴰ q before → Apart N q k) → clashes N before k ≡ false
 unfolding clashes namedBy
 apart-clash N before k h = elim (ℕ-discrete (k .colour) 65535) [
   | yes e ↦ simp (eq-eqb (k .colour) 65535 e)

@@ -27,11 +27,11 @@ use Rattle.acceptance.proofs.Parsing.{good-kind, record-good, parse, bu
 
 -- ---- 8 and 9
 
-no-extra : (s : List ℕ) → Passed (extra s) → length s ≤ rowsEnd s
+pub no-extra : (s : List ℕ) → Passed (extra s) → length s ≤ rowsEnd s
 unfolding extra Passed
 no-extra s p = ltb-false (rowsEnd s) (length s) (p .0)
 
-extra-passes : (s : List ℕ) → length s ≤ rowsEnd s → Passed (extra s)
+pub extra-passes : (s : List ℕ) → length s ≤ rowsEnd s → Passed (extra s)
 unfolding extra Passed
 extra-passes s h = (le-ltb (rowsEnd s) (length s) h, tt)
 
