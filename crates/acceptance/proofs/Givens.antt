@@ -116,13 +116,18 @@ module _ (s : List ℕ) (p : ℕ) where
       to e = let x = to-record s 0 p (omega arith) e in
           elim (parts (x .due) s (x .off) (x .colour) 0 p (x .refuses)) [
             | inl a ↦ (let y = cut (x .due) s (x .off) (x .colour) p a in
-              subst (Given1 s) (sym (y .0)) (record { due = x .due; colour = x .colour; reached = x .reached; cut = y .1 }))
+                subst (Given1 s) (sym (y .0)) (record { due = x .due; colour = x .colour; reached = x .reached; cut = y .1 }))
             | inr a ↦ absurd (omega (arith, in-fields (x .due) s (x .off) (x .colour) 0 (a .1 .0) (a .1 .1)))
           ]
 
       back : Given1 s p → checkOf s ≡ refused 1 p
-      back g = of-record s 0 p (record { due = g .due; off = p; colour = g .colour; reached = g .reached;
-        refuses = by-shape (g .due) s p (g .colour) 0 p (of-cut (g .due) s p (g .colour) (g .cut)) })
+      back g = of-record s 0 p (record {
+        due = g .due;
+        off = p;
+        colour = g .colour;
+        reached = g .reached;
+        refuses = by-shape (g .due) s p (g .colour) 0 p (of-cut (g .due) s p (g .colour) (g .cut));
+      })
 
   pub given-2 : checkOf s ≡ refused 2 p ↔ Given2 s p
   given-2 = (to, back)
@@ -131,13 +136,18 @@ module _ (s : List ℕ) (p : ℕ) where
       to e = let x = to-record s 1 p (omega arith) e in
           elim (parts (x .due) s (x .off) (x .colour) 1 p (x .refuses)) [
             | inl a ↦ (let y = other (x .due) s (x .off) (x .colour) p a in
-              subst (Given2 s) (sym (y .0)) (record { due = x .due; colour = x .colour; reached = x .reached; six = y .1 .0; other = y .1 .1 }))
+                subst (Given2 s) (sym (y .0)) (record { due = x .due; colour = x .colour; reached = x .reached; six = y .1 .0; other = y .1 .1 }))
             | inr a ↦ absurd (omega (arith, in-fields (x .due) s (x .off) (x .colour) 1 (a .1 .0) (a .1 .1)))
           ]
 
       back : Given2 s p → checkOf s ≡ refused 2 p
-      back g = of-record s 1 p (record { due = g .due; off = p; colour = g .colour; reached = g .reached;
-        refuses = by-shape (g .due) s p (g .colour) 1 p (of-other (g .due) s p (g .colour) (g .six, g .other)) })
+      back g = of-record s 1 p (record {
+        due = g .due;
+        off = p;
+        colour = g .colour;
+        reached = g .reached;
+        refuses = by-shape (g .due) s p (g .colour) 1 p (of-other (g .due) s p (g .colour) (g .six, g .other));
+      })
 
   pub given-field : (n : ℕ) → 3 ≤ suc n → suc n ≤ 7 → checkOf s ≡ refused (suc n) p ↔ GivenField (suc n) s p
   given-field n lo hi = (to, back)
@@ -147,14 +157,26 @@ module _ (s : List ℕ) (p : ℕ) where
           elim (parts (x .due) s (x .off) (x .colour) n p (x .refuses)) [
             | inl a ↦ absurd (omega (arith, within-answer 1 2 _ n p (shape-in (x .due) s (x .off)) a))
             | inr a ↦ record {
-              due = x .due; off = x .off; colour = x .colour; reached = x .reached; here = a .0 .due; whole = a .0 .whole;
-              k = a .1 .0; first = first-failure _ n (a .1 .0) .0 (a .1 .1); place = a .1 .2
+              due = x .due;
+              off = x .off;
+              colour = x .colour;
+              reached = x .reached;
+              here = a .0 .due;
+              whole = a .0 .whole;
+              k = a .1 .0;
+              first = first-failure _ n (a .1 .0) .0 (a .1 .1);
+              place = a .1 .2;
             }
           ]
 
       back : GivenField (suc n) s p → checkOf s ≡ refused (suc n) p
-      back g = of-record s n p (record { due = g .due; off = g .off; colour = g .colour; reached = g .reached;
-        refuses = by-fields (g .due) s (g .off) (g .colour) n (g .k) (shape-of g) (first-failure _ n (g .k) .1 (g .first)) ∙ ap (refused (suc n)) (sym (g .place)) })
+      back g = of-record s n p (record {
+        due = g .due;
+        off = g .off;
+        colour = g .colour;
+        reached = g .reached;
+        refuses = by-fields (g .due) s (g .off) (g .colour) n (g .k) (shape-of g) (first-failure _ n (g .k) .1 (g .first)) ∙ ap (refused (suc n)) (sym (g .place));
+      })
 
   pub given-3 : checkOf s ≡ refused 3 p ↔ GivenField 3 s p
   given-3 = given-field 2 (omega arith) (omega arith)
@@ -192,10 +214,17 @@ module _ (s : List ℕ) (p : ℕ) where
           elim (answer-split (extra s) _ 8 p (x .1)) [
             | inl a ↦ absurd (omega (arith, within-answer 8 8 _ 8 p (extra-in s) a))
             | inr a ↦ (let y = to-meet (countN s) (countR s) s (rowsAt s) 8 p (a .1) in
-              record {
-                all-pass = x .0; no-more = no-extra s (a .0); i = y .0; is-row = y .1; place = y .2;
-                j = y .3 .0; before = y .3 .1; clash = y .3 .2; none-earlier = y .4
-              })
+                record {
+                  all-pass = x .0;
+                  no-more = no-extra s (a .0);
+                  i = y .0;
+                  is-row = y .1;
+                  place = y .2;
+                  j = y .3 .0;
+                  before = y .3 .1;
+                  clash = y .3 .2;
+                  none-earlier = y .4;
+                })
           ]
 
       back : Given9 s p → checkOf s ≡ refused 9 p

@@ -7,3 +7,4 @@ pub mod Numbers
 pub mod Reaching
 pub mod Meets
 pub mod Givens
+pub mod Examples

@@ -36,15 +36,18 @@ clash-meet N before k e =
     let b = and-both (ltb (x .0) N) _ (x .2) in
     let q = any-yes _ before (b .1) in
     let c = and-both (eqb (q .0 .colour) (k .colour)) _ (q .2) in
-    let i = any-yes (eqb (x .0)) (q .0 .ids) (c .1) in
-    (q .0, q .1, record {
-      one-colour = eqb-true _ _ (c .0);
-      coloured = λ z. let f : _≡_ {A = Bool} false true = sym (ap not (eq-eqb (k .colour) 65535 z)) ∙ a .0 in let y : _≡_ {A = ℕ} 0 1 = cc in omega arith;
-      x = x .0;
-      in-range = ltb-true (x .0) N (b .0);
-      earlier = subst (λ (j : ℕ). List·Memᴰ j (q .0 .ids)) (sym (eqb-true (x .0) (i .0) (i .2))) (i .1);
-      later = x .1
-    })
+    let i = any-yes (eqb (x .0)) (q .0 .ids) (c .1) in (
+      q .0,
+      q .1,
+      record {
+        one-colour = eqb-true _ _ (c .0);
+        coloured = λ z. let f : _≡_ {A = Bool} false true = sym (ap not (eq-eqb (k .colour) 65535 z)) ∙ a .0 in let y : _≡_ {A = ℕ} 0 1 = cc in omega arith;
+        x = x .0;
+        in-range = ltb-true (x .0) N (b .0);
+        earlier = subst (λ (j : ℕ). List·Memᴰ j (q .0 .ids)) (sym (eqb-true (x .0) (i .0) (i .2))) (i .1);
+        later = x .1;
+      },
+    )
 
 pub meet-not : (N : ℕ) (q k : Key) → Apart N q k → Meet N q k → ⊥
 meet-not N q k a m = a (m .one-colour) (m .coloured) (m .x) (m .in-range) (m .later) (m .earlier)
@@ -105,8 +108,8 @@ module _ (N : ℕ) (s : List ℕ) where
 
       go : (b : Bool) → clashes N before (keyOf (recordAt s off)) ≡ b → cond b (refused 9 off) (firstOf (clashTests N k s (off + recordLength s off) (keyOf (recordAt s off) ∷ before))) ≡ refused (suc n) p
           → (firstOf (clashTests N k s (off + recordLength s off) (keyOf (recordAt s off) ∷ before)) ≡ refused (suc n) p
-            → (i : ℕ) × (i < k) × (p ≡ endOf i s (off + recordLength s off)) × (clashes N (keysBefore i s (off + recordLength s off) (keyOf (recordAt s off) ∷ before)) (key s (off + recordLength s off) i) ≡ true)
-              × ((m : ℕ) → m < i → clashes N (keysBefore m s (off + recordLength s off) (keyOf (recordAt s off) ∷ before)) (key s (off + recordLength s off) m) ≡ false))
+          → (i : ℕ) × (i < k) × (p ≡ endOf i s (off + recordLength s off)) × (clashes N (keysBefore i s (off + recordLength s off) (keyOf (recordAt s off) ∷ before)) (key s (off + recordLength s off) i) ≡ true)
+          × ((m : ℕ) → m < i → clashes N (keysBefore m s (off + recordLength s off) (keyOf (recordAt s off) ∷ before)) (key s (off + recordLength s off) m) ≡ false))
           → (i : ℕ) × (i < suc k) × (p ≡ endOf i s off) × (clashes N (keysBefore i s off before) (key s off i) ≡ true) × ((m : ℕ) → m < i → clashes N (keysBefore m s off before) (key s off m) ≡ false)
       go true f e ih = (0, omega arith, sym (place-is e), f, λ m h. absurd (not-suc-le-zero h))
       go false f e ih = let x = ih e in (suc (x .0), suc-le-suc (x .1), x .2, x .3, earlier f (x .0) (x .4))
@@ -124,13 +127,16 @@ pub to-meet : (N k : ℕ) (s : List ℕ) (off n p : ℕ) → firstOf (clashTests
     → (i : ℕ) × (i < k) × (p ≡ endOf i s off) × ((j : ℕ) × (j < i) × Meet N (key s off j) (key s off i)) × ((m n : ℕ) → m < n → n < i → Meet N (key s off m) (key s off n) → ⊥)
 to-meet N k s off n p e =
     let x = find N s k off [] n p e in
-    let q = clash-meet N (keysBefore (x .0) s off []) (key s off (x .0)) (x .3) in
-    (x .0, x .1, x .2,
+    let q = clash-meet N (keysBefore (x .0) s off []) (key s off (x .0)) (x .3) in (
+      x .0,
+      x .1,
+      x .2,
       (elim (mem-key (x .0) s off [] (q .0) (q .1)) [
         | inl j ↦ (j .0, j .1, subst (λ (r : Key). Meet N r (key s off (x .0))) (j .2) (q .2))
         | inr y ↦ absurd (List·Memᴰ·not-nil y)
       ]),
-      λ a b h l. meet-not N (key s off a) (key s off b) (clash-apart N (keysBefore b s off []) (key s off b) (x .4 b l) (key s off a) (key-mem a b s off [] h)))
+      λ a b h l. meet-not N (key s off a) (key s off b) (clash-apart N (keysBefore b s off []) (key s off b) (x .4 b l) (key s off a) (key-mem a b s off [] h)),
+    )
 
 pub of-meet : (N k : ℕ) (s : List ℕ) (off i j : ℕ) → i < k → j < i → Meet N (key s off j) (key s off i)
     → ((m n : ℕ) → m < n → n < i → Meet N (key s off m) (key s off n) → ⊥) → firstOf (clashTests N k s off []) ≡ refused 9 (endOf i s off)

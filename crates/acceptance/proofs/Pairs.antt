@@ -45,11 +45,11 @@ pub clash-apart : (N : ℕ) (before : List Key) (k : Key) → clashes N before k
 unfolding clashes namedBy
 clash-apart N before k e q m c o x h mk mq =
     let e1 : anyOf (λ x. ltb x N && anyOf (namedBy (k .colour) x) before) (k .ids) ≡ false =
-      ap (λ (t : Bool). not t && anyOf (λ x. ltb x N && anyOf (namedBy (k .colour) x) before) (k .ids)) (sym (ne-eqb (k .colour) 65535 o)) ∙ e in
+    ap (λ (t : Bool). not t && anyOf (λ x. ltb x N && anyOf (namedBy (k .colour) x) before) (k .ids)) (sym (ne-eqb (k .colour) 65535 o)) ∙ e in
     let e2 : anyOf (namedBy (k .colour) x) before ≡ false =
-      ap (λ (t : Bool). t && anyOf (namedBy (k .colour) x) before) (sym (lt-ltb x N h)) ∙ no-any (λ x. ltb x N && anyOf (namedBy (k .colour) x) before) (k .ids) e1 x mk in
+    ap (λ (t : Bool). t && anyOf (namedBy (k .colour) x) before) (sym (lt-ltb x N h)) ∙ no-any (λ x. ltb x N && anyOf (namedBy (k .colour) x) before) (k .ids) e1 x mk in
     let e3 : anyOf (eqb x) (q .ids) ≡ false =
-      ap (λ (t : Bool). t && anyOf (eqb x) (q .ids)) (sym (eq-eqb (q .colour) (k .colour) c)) ∙ no-any (namedBy (k .colour) x) before e2 q m in
+    ap (λ (t : Bool). t && anyOf (eqb x) (q .ids)) (sym (eq-eqb (q .colour) (k .colour) c)) ∙ no-any (namedBy (k .colour) x) before e2 q m in
     eqb-false x x (no-any (eqb x) (q .ids) e3 x mq) refl
 
 pub apart-clash : (N : ℕ) (before : List Key) (k : Key) → ((q : Key) → List·Memᴰ q before → Apart N q k) → clashes N before k ≡ false
@@ -87,9 +87,10 @@ pub apart-free : (N : ℕ) (before : List Key) (bs : List (List ℕ)) → ((q : 
     → ((m n : ℕ) → m < n → n < length bs → Apart N (keyAt bs m) (keyAt bs n)) → Free N before bs
 unfolding Free
 apart-free N before [] f g = tt
-apart-free N before (b ∷ bs) f g =
-    (apart-clash N before (keyOf b) (λ q m. f q m 0 (omega arith)),
-      apart-free N (keyOf b ∷ before) bs (λ q m. on q (List·Memᴰ·cases-cons m)) (λ m n l h. g (suc m) (suc n) (suc-le-suc l) (suc-le-suc h)))
+apart-free N before (b ∷ bs) f g = (
+  apart-clash N before (keyOf b) (λ q m. f q m 0 (omega arith)),
+  apart-free N (keyOf b ∷ before) bs (λ q m. on q (List·Memᴰ·cases-cons m)) (λ m n l h. g (suc m) (suc n) (suc-le-suc l) (suc-le-suc h)),
+)
   where
     on : (q : Key) → (q ≡ keyOf b) ⊎ List·Memᴰ q before → (n : ℕ) → n < length bs → Apart N q (keyAt bs n)
     on q (inl e) n h = subst (λ (x : Key). Apart N x (keyAt bs n)) (sym e) (g 0 (suc n) (omega arith) (suc-le-suc h))
@@ -128,6 +129,7 @@ pub chain-of : (c : ℕ) (bs : List (List ℕ)) → ((n : ℕ) → n < length bs
     → ((m n : ℕ) → m < n → n < length bs → colourOf bs m ≤ colourOf bs n) → Chain Row c bs
 unfolding Chain
 chain-of c [] g l r = tt
-chain-of c (b ∷ bs) g l r =
-    (good-after 0 c b (g 0 (omega arith)) (l 0 (omega arith)),
-      chain-of (le16 b 6) bs (λ n h. g (suc n) (suc-le-suc h)) (λ n h. r 0 (suc n) (omega arith) (suc-le-suc h)) (λ m n a h. r (suc m) (suc n) (suc-le-suc a) (suc-le-suc h)))
+chain-of c (b ∷ bs) g l r = (
+  good-after 0 c b (g 0 (omega arith)) (l 0 (omega arith)),
+  chain-of (le16 b 6) bs (λ n h. g (suc n) (suc-le-suc h)) (λ n h. r 0 (suc n) (omega arith) (suc-le-suc h)) (λ m n a h. r (suc m) (suc n) (suc-le-suc a) (suc-le-suc h)),
+)

@@ -35,7 +35,7 @@ module _ (w : Due) (s : List ℕ) (off c : ℕ) (p : Passed (recordTests w s off
   record-good = record {
     size = length-record shape ∙ ap (4 +_) (sym len);
     due = (λ i. isDue w (kind-record shape i) (len i)) ∙ shape .due;
-    passed = record-passed w s off c p .1
+    passed = record-passed w s off c p .1;
   }
 
   pub record-there : off + recordLength s off ≤ length s
@@ -65,7 +65,7 @@ module _ (w : Due) (c : ℕ) (A b C : List ℕ) (off : ℕ) (e : length A ≡ of
   shape-in = record {
     six = omega (arith, size, long);
     due = (λ i. isDue w (le16-middle A b C off e 4 (omega (arith, long)) i) (len-in i)) ∙ g .due;
-    whole = omega (arith, size, length-in)
+    whole = omega (arith, size, length-in);
   }
     where
       len-in : le32 (A ++ (b ++ C)) off ≡ le32 b 0
@@ -91,9 +91,9 @@ parse w (suc k) s off c h p =
       good = (record-good w s off c (t .0), subst (λ (x : ℕ). Chain w x (records k s (off + recordLength s off))) (sym (record-colour w s off c (t .0))) (ih .good));
       inside = ih .inside;
       bytes =
-        append-assoc (recordAt s off) (flatten (records k s (off + recordLength s off))) _
-        ∙ ap (recordAt s off ++_) (ih .bytes ∙ sym (drop-drop (recordLength s off) off s))
-        ∙ take-append-drop (recordLength s off) (drop off s)
+          append-assoc (recordAt s off) (flatten (records k s (off + recordLength s off))) _
+          ∙ ap (recordAt s off ++_) (ih .bytes ∙ sym (drop-drop (recordLength s off) off s))
+          ∙ take-append-drop (recordLength s off) (drop off s);
     }
 
 pub record Built (w : Due) (bs : List (List ℕ)) (s : List ℕ) (off c : ℕ) : Type 0 where
@@ -109,11 +109,11 @@ build w (b ∷ bs) A C s off c e l g =
     let n : recordLength s off ≡ length b = ap (λ (x : List ℕ). recordLength x off) e′ ∙ length-in w c A b (flatten bs ++ C) off l (g .0) in
     let hue : le16 s (off + 6) ≡ le16 b 6 = ap (λ (x : List ℕ). le16 x (off + 6)) e′ ∙ colour-in w c A b (flatten bs ++ C) off l (g .0) in
     let ih = build w bs (A ++ b) C s (off + recordLength s off) (le16 s (off + 6)) (e′ ∙ sym (append-assoc A b (flatten bs ++ C)))
-      (length-append A b ∙ omega arith) (subst (λ (x : ℕ). Chain w x bs) (sym hue) (g .1)) in
+    (length-append A b ∙ omega arith) (subst (λ (x : ℕ). Chain w x bs) (sym hue) (g .1)) in
     record {
       passed = passed-join (recordTests w s off c) _ (subst (λ (x : List ℕ). Passed (recordTests w x off c)) (sym e′) (passes-in w c A b (flatten bs ++ C) off l (g .0))) (ih .passed);
       same = λ i. (ap (λ (x : List ℕ). recordAt x off) e′ ∙ record-in w c A b (flatten bs ++ C) off l (g .0)) i ∷ ih .same i;
-      end = ih .end ∙ omega (arith, length-append b (flatten bs))
+      end = ih .end ∙ omega (arith, length-append b (flatten bs));
     }
 
 pub as-many : (k : ℕ) (s : List ℕ) (off : ℕ) → length (records k s off) ≡ k

@@ -79,7 +79,7 @@ module _ (s : List ℕ) (n p : ℕ) where
       in-points : Passed (recordTests Head s 0 0)
           → (firstOf (recordsTests Point (countN s) s 26 0) ≡ refused (suc n) p)
           ⊎ (Passed (recordsTests Point (countN s) s 26 0)
-            × (firstOf (recordsTests Row (countR s) s (rowsAt s) 0 then extra s then clashTests (countN s) (countR s) s (rowsAt s) []) ≡ refused (suc n) p))
+          × (firstOf (recordsTests Row (countR s) s (rowsAt s) 0 then extra s then clashTests (countN s) (countR s) s (rowsAt s) []) ≡ refused (suc n) p))
           → Refused s (suc n) p
       in-points h (inl a) = let x = find Point (countN s) s 26 0 n p a in
           record { due = Point; off = endOf (x .i) s 26; colour = colourBefore (x .i) s 26 0; reached = at-point (x .i) (x .below) h (x .passed); refuses = x .refuses }
@@ -87,7 +87,7 @@ module _ (s : List ℕ) (n p : ℕ) where
 
       at-the-head : (firstOf (recordTests Head s 0 0) ≡ refused (suc n) p)
           ⊎ (Passed (recordTests Head s 0 0)
-            × (firstOf (recordsTests Point (countN s) s 26 0 then recordsTests Row (countR s) s (rowsAt s) 0 then extra s then clashTests (countN s) (countR s) s (rowsAt s) []) ≡ refused (suc n) p))
+          × (firstOf (recordsTests Point (countN s) s 26 0 then recordsTests Row (countR s) s (rowsAt s) 0 then extra s then clashTests (countN s) (countR s) s (rowsAt s) []) ≡ refused (suc n) p))
           → Refused s (suc n) p
       at-the-head (inl a) = record { due = Head; off = 0; colour = 0; reached = at-head; refuses = a }
       at-the-head (inr b) = in-points (b .0) (answer-split (recordsTests Point (countN s) s 26 0) _ n p (b .1))

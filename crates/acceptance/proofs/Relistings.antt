@@ -48,15 +48,15 @@ module _ (A B : List ℕ) (bs : List (List ℕ)) (σ τ : ℕ → ℕ) (w : Whol
       (λ n h. subst (Good Row 0) (partner n h) (good-at 0 (rows A) (w .good-rows) (τ n) (home n h)))
       (λ n h. omega arith)
       (λ m n l h. let k = R .as-many in
-        omega (arith, R .same-colour m (omega arith), R .same-colour n (omega arith), rising-at 0 (rows A) (w .good-rows) m n l (omega arith)))
+      omega (arith, R .same-colour m (omega arith), R .same-colour n (omega arith), rising-at 0 (rows A) (w .good-rows) m n l (omega arith)))
 
   free : Free (countN A) [] bs
   free = apart-free (countN A) [] bs (λ q m n h. absurd (List·Memᴰ·not-nil m))
       (λ m n l h. let k = R .as-many in
-        subst₂ (λ (x y : List ℕ). Apart (countN A) (keyOf x) (keyOf y)) (partner m (omega arith)) (partner n h)
-        (apart-any (τ m) (τ n)
-          (λ e. let z : σ (τ m) ≡ σ (τ n) = ap σ e in omega (arith, R .one-to-one .στ m (omega arith), R .one-to-one .στ n (omega arith)))
-          (home m (omega arith)) (home n h)))
+      subst₂ (λ (x y : List ℕ). Apart (countN A) (keyOf x) (keyOf y)) (partner m (omega arith)) (partner n h)
+      (apart-any (τ m) (τ n)
+      (λ e. let z : σ (τ m) ≡ σ (τ n) = ap σ e in omega (arith, R .one-to-one .στ m (omega arith), R .one-to-one .στ n (omega arith)))
+      (home m (omega arith)) (home n h)))
 
   -- ---- B's own parts
 
@@ -88,8 +88,8 @@ module _ (A B : List ℕ) (bs : List (List ℕ)) (σ τ : ℕ → ℕ) (w : Whol
   rows-same =
       ap (λ (k : ℕ). records k B (rowsAt B)) (sym manyR)
       ∙ build Row bs (head A ++ flatten (points A)) [] B (rowsAt B) 0
-        (R .made ∙ sym (append-assoc (head A) (flatten (points A)) (flatten bs)) ∙ ap ((head A ++ flatten (points A)) ++_) (sym (append-nil (flatten bs))))
-        (length-append (head A) (flatten (points A)) ∙ omega (arith, long, at)) good .same
+      (R .made ∙ sym (append-assoc (head A) (flatten (points A)) (flatten bs)) ∙ ap ((head A ++ flatten (points A)) ++_) (sym (append-nil (flatten bs))))
+      (length-append (head A) (flatten (points A)) ∙ omega (arith, long, at)) good .same
 
   pub whole-relisted : Whole B
   whole-relisted = record {
@@ -97,7 +97,7 @@ module _ (A B : List ℕ) (bs : List (List ℕ)) (σ τ : ℕ → ℕ) (w : Whol
     good-head = subst (Good Head 0) (sym headB) (w .good-head);
     good-points = subst (Chain Point 0) (sym points-same) (w .good-points);
     good-rows = subst (Chain Row 0) (sym rows-same) good;
-    free = subst₂ (λ (n : ℕ) (l : List (List ℕ)). Free n [] l) (sym (same 6 (omega arith))) (sym rows-same) free
+    free = subst₂ (λ (n : ℕ) (l : List (List ℕ)). Free n [] l) (sym (same 6 (omega arith))) (sym rows-same) free;
   }
 
 -- A RELISTING OF AN ACCEPTED FRAME IS ACCEPTED

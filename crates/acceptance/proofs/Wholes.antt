@@ -64,13 +64,13 @@ whole s p =
     let ps = parse Point (countN s) s 26 0 (head-long s (t1 .0)) (t2 .0) in
     let rs = parse Row (countR s) s (rowsAt s) 0 (ps .inside) (t3 .0) in
     let end : flatten (rows s) ≡ drop (rowsAt s) s =
-      sym (append-nil (flatten (rows s))) ∙ ap (flatten (rows s) ++_) (sym (drop-of-length-le s (no-extra s (t4 .0)))) ∙ rs .bytes in
+    sym (append-nil (flatten (rows s))) ∙ ap (flatten (rows s) ++_) (sym (drop-of-length-le s (no-extra s (t4 .0)))) ∙ rs .bytes in
     record {
       bytes = sym (take-append-drop 26 s) ∙ ap (head s ++_) (sym (ps .bytes) ∙ ap (flatten (points s) ++_) (sym end));
       good-head = head-good s (t1 .0);
       good-points = ps .good;
       good-rows = rs .good;
-      free = free-parse (countN s) (countR s) s (rowsAt s) [] (t4 .1)
+      free = free-parse (countN s) (countR s) s (rowsAt s) [] (t4 .1);
     }
 
 -- ---- and back
@@ -97,8 +97,8 @@ module _ (s : List ℕ) (w : Whole s) where
   rows-built : Passed (recordsTests Row (countR s) s (rowsAt s) 0) × (rowsEnd s ≡ rowsAt s + length (flatten (rows s)))
   rows-built =
       let x = build Row (rows s) (head s ++ flatten (points s)) [] s (rowsAt s) 0
-        (w .bytes ∙ sym (append-assoc (head s) (flatten (points s)) (flatten (rows s))) ∙ ap ((head s ++ flatten (points s)) ++_) (sym (append-nil (flatten (rows s)))))
-        (length-append (head s) (flatten (points s)) ∙ omega (arith, long-head, points-built .1)) (w .good-rows) in
+      (w .bytes ∙ sym (append-assoc (head s) (flatten (points s)) (flatten (rows s))) ∙ ap ((head s ++ flatten (points s)) ++_) (sym (append-nil (flatten (rows s)))))
+      (length-append (head s) (flatten (points s)) ∙ omega (arith, long-head, points-built .1)) (w .good-rows) in
       let n = as-many (countR s) s (rowsAt s) in
       (subst (λ (k : ℕ). Passed (recordsTests Row k s (rowsAt s) 0)) n (x .passed), subst (λ (k : ℕ). endOf k s (rowsAt s) ≡ rowsAt s + length (flatten (rows s))) n (x .end))
 
@@ -160,7 +160,7 @@ in-range s w =
     let n = as-many (countN s) s 26 in
     let m = as-many (countR s) s (rowsAt s) in
     let h16 : (k : ℕ) → k + 2 ≤ 26 → le16 (recordAt s 0) k ≡ le16 s k =
-      λ k h. le16-part s 0 (recordLength s 0) k (omega (arith, head-kind s p .1)) ∙ ap (le16 s) (omega arith) in
+    λ k h. le16-part s 0 (recordLength s 0) k (omega (arith, head-kind s p .1)) ∙ ap (le16 s) (omega arith) in
     let at : rowsAt s ≡ 26 + 30 * countN s = omega (arith, points-built s w .1, points-length 0 (points s) (w .good-points)) in
     record {
       few-points = few-points s p;
@@ -171,5 +171,5 @@ in-range s w =
       as-many-rows = m;
       rows-at = at;
       rows-end = ends s w;
-      short = omega (arith, few-points s p, few-rows s p, ends s w, rows-built s w .1, rows-length 0 (rows s) (w .good-rows))
+      short = omega (arith, few-points s p, few-rows s p, ends s w, rows-built s w .1, rows-length 0 (rows s) (w .good-rows));
     }

@@ -35,9 +35,9 @@ colourBefore (suc i) s off c = colourBefore i s (off + recordLength s off) (le16
 pub data Reached (s : List ℕ) : Due → ℕ → ℕ → Type 0 where
   at-head : Reached s Head 0 0
   at-point : (i : ℕ) → i < countN s → Passed (recordTests Head s 0 0) → Passed (recordsTests Point i s headEnd 0)
-    → Reached s Point (endOf i s headEnd) (colourBefore i s headEnd 0)
+      → Reached s Point (endOf i s headEnd) (colourBefore i s headEnd 0)
   at-row : (i : ℕ) → i < countR s → Passed (recordTests Head s 0 0) → Passed (recordsTests Point (countN s) s headEnd 0) → Passed (recordsTests Row i s (rowsAt s) 0)
-    → Reached s Row (endOf i s (rowsAt s)) (colourBefore i s (rowsAt s) 0)
+      → Reached s Row (endOf i s (rowsAt s)) (colourBefore i s (rowsAt s) 0)
 
 -- every record passes all its tests
 pub record AllPass (s : List ℕ) : Type 0 where

@@ -2,3 +2,4 @@
 pub mod Whole
 pub mod Relisted
 pub mod Given
+pub mod Worked
