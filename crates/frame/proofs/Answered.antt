@@ -10,7 +10,7 @@ use Rattle.bytes.specs.Bytes.{le16, le32}
 use Rattle.bytes.proofs.Parts.{le32-part}
 use Rattle.records.specs.declared.Due.the-variants.{Head, Point, Row}
 use Rattle.records.specs.declared.Answer.{Answer}
-use Rattle.records.specs.Answers.{firstOf, Passed, refuseIf}
+use Rattle.records.specs.Answers.{firstOf, Passed, refuseIf, _orElse_}
 use Rattle.records.specs.Fields.{fields}
 use Rattle.records.specs.Records.{recordLength, recordAt, recordTests, recordsTests, endOf}
 use Rattle.records.proofs.Firsts.{Zero, stop-at, go-on, first-append, passed-of}
@@ -58,7 +58,7 @@ module _ (s : List ℕ) (h : Answer) (eh : h ≡ firstOf (recordTests Head s 0 0
   pub head-passed : Zero h → Passed (recordTests Head s 0 0)
   head-passed z = passed-of (recordTests Head s 0 0) h eh z
 
-  module _ (zh : Zero h) (n r : ℕ) (en : n ≡ countN s) (er : r ≡ countR s) (p : Answer) (ep : p ≡ firstOf (recordsTests Point n s 26 0)) where
+  module _ (zh : Zero h) (n m : ℕ) (en : n ≡ countN s) (er : m ≡ countR s) (p : Answer) (ep : p ≡ firstOf (recordsTests Point n s 26 0)) where
     ep′ : p ≡ firstOf (recordsTests Point (countN s) s 26 0)
     ep′ = ep ∙ ap (λ (m : ℕ). firstOf (recordsTests Point m s 26 0)) en
 
@@ -68,7 +68,7 @@ module _ (s : List ℕ) (h : Answer) (eh : h ≡ firstOf (recordTests Head s 0 0
         go-on _ _ p h eh zh (stop-at _ _ p ep′ z ∙ sym (first-append (recordsTests Point (countN s) s 26 0) _))
         ∙ sym (first-append (recordTests Head s 0 0) _)
 
-    module _ (zp : Zero p) (at : ℕ) (ea : at ≡ endOf n s 26) (q : Answer) (eq : q ≡ firstOf (recordsTests Row r s at 0)) where
+    module _ (zp : Zero p) (at : ℕ) (ea : at ≡ endOf n s 26) (q : Answer) (eq : q ≡ firstOf (recordsTests Row m s at 0)) where
       ea′ : at ≡ rowsAt s
       ea′ = ea ∙ ap (λ (m : ℕ). endOf m s 26) en
 
@@ -83,7 +83,7 @@ module _ (s : List ℕ) (h : Answer) (eh : h ≡ firstOf (recordTests Head s 0 0
           ∙ sym (first-append (recordsTests Point (countN s) s 26 0) _))
           ∙ sym (first-append (recordTests Head s 0 0) _)
 
-      module _ (zq : Zero q) (end : ℕ) (ee : end ≡ endOf r s at) (x : Answer) (ex : x ≡ refuseIf (ltb end (length s)) 8 end) where
+      module _ (zq : Zero q) (end : ℕ) (ee : end ≡ endOf m s at) (x : Answer) (ex : x ≡ refuseIf (ltb end (length s)) 8 end) where
         ee′ : end ≡ rowsEnd s
         ee′ = ee ∙ λ i. endOf (er i) s (ea′ i)
 
@@ -91,23 +91,13 @@ module _ (s : List ℕ) (h : Answer) (eh : h ≡ firstOf (recordTests Head s 0 0
         unfolding extra firstOf refuseIf
         ex′ = ex ∙ ap (λ (e : ℕ). refuseIf (ltb e (length s)) 8 e) ee′
 
-        pub check-extra : (Zero x → ⊥) → x ≡ checkOf s
+        pub check-last : (t r : Answer) → t ≡ firstOf (clashTests n m s at []) → r ≡ (x orElse t) → r ≡ checkOf s
         unfolding checkOf frameTests
-        check-extra z =
-            go-on _ _ x h eh zh
-            (go-on _ _ x p ep′ zp
-            (go-on _ _ x q eq′ zq (stop-at _ _ x ex′ z ∙ sym (first-append (extra s) _))
-            ∙ sym (first-append (recordsTests Row (countR s) s (rowsAt s) 0) _))
-            ∙ sym (first-append (recordsTests Point (countN s) s 26 0) _))
-            ∙ sym (first-append (recordTests Head s 0 0) _)
-
-        pub check-clash : Zero x → (t : Answer) → t ≡ firstOf (clashTests n r s at []) → t ≡ checkOf s
-        unfolding checkOf frameTests
-        check-clash z t et =
-            go-on _ _ t h eh zh
-            (go-on _ _ t p ep′ zp
-            (go-on _ _ t q eq′ zq
-            (go-on _ _ t x ex′ z (et ∙ λ i. firstOf (clashTests (en i) (er i) s (ea′ i) [])) ∙ sym (first-append (extra s) _))
+        check-last t r et e =
+            go-on _ _ r h eh zh
+            (go-on _ _ r p ep′ zp
+            (go-on _ _ r q eq′ zq
+            (e ∙ (λ i. ex′ i orElse (et ∙ λ j. firstOf (clashTests (en j) (er j) s (ea′ j) [])) i) ∙ sym (first-append (extra s) _))
             ∙ sym (first-append (recordsTests Row (countR s) s (rowsAt s) 0) _))
             ∙ sym (first-append (recordsTests Point (countN s) s 26 0) _))
             ∙ sym (first-append (recordTests Head s 0 0) _)

@@ -62,9 +62,7 @@ pub extern "C" fn check(frame: &[u8]) -> Answer
         return q;
     }
     let end = rows.end;
-    let x = records::refuse_if(end < frame.len(), 8, end);
-    if x.number != 0 {
-        return x;
-    }
-    clash::clash_test(n, r, frame, at)
+    let more = records::refuse_if(end < frame.len(), 8, end);
+    let shared = clash::clash_test(n, r, frame, at);
+    records::first(more, shared)
 }

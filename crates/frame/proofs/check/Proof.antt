@@ -1,7 +1,7 @@
 -- `frame::check` meets its contract. Assumes nothing.
 use native.Mathlib.Omega.{arith}
 use Rattle.records.proofs.Firsts.{passed-of}
-use Rattle.frame.proofs.Answered.{head-long, few-points, head-passed, check-head, check-points, check-rows, check-extra, check-clash}
+use Rattle.frame.proofs.Answered.{head-long, few-points, head-passed, check-head, check-points, check-rows, check-last}
 use borrow.Author.Needs.{needs}
 use Rattle.frame.proofs.check.Statement.{statement}
 use Rattle.frame.proofs.check.Tie as tie
@@ -39,17 +39,17 @@ returns-3 c = check-rows _ _ (c .before .before .before .before .before .before 
 refuse-if-requires : tie.Need-refuse-if-requires
 refuse-if-requires c κs = search needs
 
-returns-4 : tie.Need-returns-4
-returns-4 c = check-extra _ _ (c .before .before .before .before .before .before .before .before .before .before .before .before .before .before .before .record-test .ensures) (c .before .before .before .before .before .before .before .before .before .before .before .before .before .if1 .left) _ _ (c .before .before .before .before .before .before .before .before .before .before .before .before .get-u32 .ensures) (c .before .before .before .before .before .before .before .before .before .before .before .get-u322 .ensures) _ (c .before .before .before .before .before .before .before .before .before .before .records-test .ensures .answers) (c .before .before .before .before .before .before .before .if2 .left) _ (c .before .before .before .before .before .before .before .before .before .before .records-test .ensures .ends (c .before .before .before .before .before .before .before .if2 .left)) _ (c .before .before .before .before .before .before .records-test2 .ensures .answers) (c .before .before .before .if3 .left) _ (c .before .before .before .before .before .before .records-test2 .ensures .ends (c .before .before .before .if3 .left)) _ (c .before .before .refuse-if .ensures) (c .if4 .taken)
-
 clash-test-requires : tie.Need-clash-test-requires
 clash-test-requires c κs = (
-  omega (arith, few-points _ (head-passed _ _ (c .before .before .before .before .before .before .before .before .before .before .before .before .before .before .before .record-test .ensures) (c .before .before .before .before .before .before .before .before .before .before .before .before .before .if1 .left)), c .before .before .before .before .before .before .before .before .before .before .before .before .get-u32 .ensures),
-  passed-of _ _ (c .before .before .before .before .before .before .records-test2 .ensures .answers) (c .before .before .before .if3 .left),
+  omega (arith, few-points _ (head-passed _ _ (c .before .before .before .before .before .before .before .before .before .before .before .before .before .record-test .ensures) (c .before .before .before .before .before .before .before .before .before .before .before .if1 .left)), c .before .before .before .before .before .before .before .before .before .before .get-u32 .ensures),
+  passed-of _ _ (c .before .before .before .before .records-test2 .ensures .answers) (c .before .if3 .left),
 )
 
-returns-5 : tie.Need-returns-5
-returns-5 c = check-clash _ _ (c .before .before .before .before .before .before .before .before .before .before .before .before .before .before .before .before .record-test .ensures) (c .before .before .before .before .before .before .before .before .before .before .before .before .before .before .if1 .left) _ _ (c .before .before .before .before .before .before .before .before .before .before .before .before .before .get-u32 .ensures) (c .before .before .before .before .before .before .before .before .before .before .before .before .get-u322 .ensures) _ (c .before .before .before .before .before .before .before .before .before .before .before .records-test .ensures .answers) (c .before .before .before .before .before .before .before .before .if2 .left) _ (c .before .before .before .before .before .before .before .before .before .before .before .records-test .ensures .ends (c .before .before .before .before .before .before .before .before .if2 .left)) _ (c .before .before .before .before .before .before .before .records-test2 .ensures .answers) (c .before .before .before .before .if3 .left) _ (c .before .before .before .before .before .before .before .records-test2 .ensures .ends (c .before .before .before .before .if3 .left)) _ (c .before .before .before .refuse-if .ensures) (c .before .if4 .left) _ (c .clash-test .ensures)
+first-requires : tie.Need-first-requires
+first-requires c κs = search needs
+
+returns-4 : tie.Need-returns-4
+returns-4 c = check-last _ _ (c .before .before .before .before .before .before .before .before .before .before .before .before .before .before .before .record-test .ensures) (c .before .before .before .before .before .before .before .before .before .before .before .before .before .if1 .left) _ _ (c .before .before .before .before .before .before .before .before .before .before .before .before .get-u32 .ensures) (c .before .before .before .before .before .before .before .before .before .before .before .get-u322 .ensures) _ (c .before .before .before .before .before .before .before .before .before .before .records-test .ensures .answers) (c .before .before .before .before .before .before .before .if2 .left) _ (c .before .before .before .before .before .before .before .before .before .before .records-test .ensures .ends (c .before .before .before .before .before .before .before .if2 .left)) _ (c .before .before .before .before .before .before .records-test2 .ensures .answers) (c .before .before .before .if3 .left) _ (c .before .before .before .before .before .before .records-test2 .ensures .ends (c .before .before .before .if3 .left)) _ (c .before .before .refuse-if .ensures) _ _ (c .before .clash-test .ensures) (c .first .ensures)
 
 pub check-spec : {M : Type 1} → statement M
 check-spec =
@@ -66,6 +66,6 @@ check-spec =
     records-test-requires-2
     returns-3
     refuse-if-requires
-    returns-4
     clash-test-requires
-    returns-5)
+    first-requires
+    returns-4)
