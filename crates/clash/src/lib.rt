@@ -10,6 +10,7 @@ ghost use Rattle.clash.specs.Clash.{countOf, clashTests};
 ghost use Rattle.clash.specs.Marks.{placed, namesOf, markedAt, clashing, markWith, markRow};
 ghost use Rattle.records.specs.declared.Due as due;
 use records::Answer;
+use records::layout;
 
 // A row's colour and the ids at its four places.
 pub struct Names {
@@ -36,8 +37,8 @@ pub fn count_of(b: &[u8]) -> u16
     requires { ⌜ 30 ≤ length (now b) ⌝ }
     ensures { λ r. ⌜ r ≡ countOf (now (b .entry)) ⌝ }
 {
-    let n = bytes::get_u16(b, 12);
-    if bytes::get_u16(b, 4) == 3 {
+    let n = bytes::get_u16(b, layout::SCALAR_COUNT);
+    if bytes::get_u16(b, layout::KIND_AT) == 3 {
         return n;
     }
     4
@@ -49,11 +50,11 @@ fn names_of(b: &[u8]) -> Names
 {
     let n = count_of(b);
     Names {
-        colour: bytes::get_u16(b, 6),
-        a: id_at(b, 14, 0 < n),
-        b: id_at(b, 18, 1 < n),
-        c: id_at(b, 22, 2 < n),
-        d: id_at(b, 26, 3 < n),
+        colour: bytes::get_u16(b, layout::ROW_COLOUR),
+        a: id_at(b, layout::ROW_IDS, 0 < n),
+        b: id_at(b, layout::ROW_IDS + 4, 1 < n),
+        c: id_at(b, layout::ROW_IDS + 8, 2 < n),
+        d: id_at(b, layout::ROW_IDS + 12, 3 < n),
     }
 }
 

@@ -6,6 +6,7 @@ ghost use Rattle.frame.specs.Check.{checkOf};
 ghost use Rattle.frame.specs.Scanned.{Scanned};
 use records::Answer;
 use records::Due;
+use records::layout;
 
 // The answer of some records one after another, and the place behind the last of them.
 pub struct Scan {
@@ -29,7 +30,7 @@ fn records_test(due: Due, k: usize, s: &[u8], at: usize) -> Scan
                 end: off,
             };
         }
-        colour = bytes::get_u16(s, off + 6);
+        colour = bytes::get_u16(s, off + layout::ROW_COLOUR);
         off = off + (4 + (bytes::get_u32(s, off) as usize));
         i = i + 1;
     }
@@ -48,9 +49,9 @@ pub extern "C" fn check(frame: &[u8]) -> Answer
     if h.number != 0 {
         return h;
     }
-    let n = bytes::get_u32(frame, 6) as usize;
-    let r = bytes::get_u32(frame, 10) as usize;
-    let points = records_test(Due::Point, n, frame, 26);
+    let n = bytes::get_u32(frame, layout::HEAD_POINTS) as usize;
+    let r = bytes::get_u32(frame, layout::HEAD_ROWS) as usize;
+    let points = records_test(Due::Point, n, frame, layout::HEAD_END);
     let p = points.answer;
     if p.number != 0 {
         return p;

@@ -9,6 +9,8 @@ ghost use Rattle.records.specs.Records as frame;
 ghost use Rattle.records.specs.Records.{isPair, isDue, recordLength, recordAt, recordTests};
 ghost use Rattle.records.specs.Sized.{Sized};
 
+pub mod layout;
+
 // What check and run answer: a number of document 01's table, and a byte's offset in the frame.
 #[repr(C)]
 pub struct Answer {
@@ -103,7 +105,11 @@ fn colour_from(b: &[u8], off: usize, c: u16) -> Answer
     requires { ⌜ (8 ≤ length (now b)) × (off + length (now b) < 18446744073709551616) ⌝ }
     ensures { λ r. ⌜ r ≡ firstFrom off (spec.colourFrom (now (b .entry)) c) ⌝ }
 {
-    refuse_if(bytes::get_u16(b, 6) < c, 7, off + 6)
+    refuse_if(
+        bytes::get_u16(b, layout::ROW_COLOUR) < c,
+        7,
+        off + layout::ROW_COLOUR,
+    )
 }
 
 // n floats from byte k on, each finite
@@ -182,12 +188,18 @@ fn head_fields(b: &[u8], off: usize) -> Answer
     ensures { λ r. ⌜ r ≡ firstFrom off (spec.headFields (now (b .entry))) ⌝ }
 {
     let limits = first(
-        limit32(b, off, 6, 4096),
-        first(limit32(b, off, 10, 4096), limit16(b, off, 16, 64)),
+        limit32(b, off, layout::HEAD_POINTS, 4096),
+        first(
+            limit32(b, off, layout::HEAD_ROWS, 4096),
+            limit16(b, off, layout::HEAD_RESWEEPS, 64),
+        ),
     );
     first(
         limits,
-        first(code(b, off, 14, 3), finite_run(b, off, 18, 2)),
+        first(
+            code(b, off, layout::HEAD_MODE, 3),
+            finite_run(b, off, layout::HEAD_WARM, 2),
+        ),
     )
 }
 
@@ -195,7 +207,7 @@ fn point_fields(b: &[u8], off: usize) -> Answer
     requires { ⌜ (30 ≤ length (now b)) × (off + length (now b) < 18446744073709551616) ⌝ }
     ensures { λ r. ⌜ r ≡ firstFrom off (spec.pointFields (now (b .entry))) ⌝ }
 {
-    finite_run(b, off, 6, 6)
+    finite_run(b, off, layout::POINT_POSITION, 6)
 }
 
 fn scalar_codes(b: &[u8], off: usize) -> Answer
@@ -203,8 +215,11 @@ fn scalar_codes(b: &[u8], off: usize) -> Answer
     ensures { λ r. ⌜ r ≡ firstFrom off (spec.scalarCodes (now (b .entry))) ⌝ }
 {
     first(
-        limit16(b, off, 12, 4),
-        first(code(b, off, 8, 1), code(b, off, 10, 2)),
+        limit16(b, off, layout::SCALAR_COUNT, 4),
+        first(
+            code(b, off, layout::ROW_STRAINED, 1),
+            code(b, off, layout::SCALAR_TYPE, 2),
+        ),
     )
 }
 
@@ -213,8 +228,11 @@ fn scalar_floats(b: &[u8], off: usize) -> Answer
     ensures { λ r. ⌜ r ≡ firstFrom off (spec.scalarFloats (now (b .entry))) ⌝ }
 {
     first(
-        finite_run(b, off, 30, 36),
-        first(bound(b, off, 174), bound(b, off, 178)),
+        finite_run(b, off, layout::ROW_POS, 36),
+        first(
+            bound(b, off, layout::SCALAR_LOWER),
+            bound(b, off, layout::SCALAR_UPPER),
+        ),
     )
 }
 
@@ -226,7 +244,10 @@ fn scalar_fields(b: &[u8], off: usize, c: u16) -> Answer
         scalar_codes(b, off),
         first(
             scalar_floats(b, off),
-            first(ordered(b, off, 174), colour_from(b, off, c)),
+            first(
+                ordered(b, off, layout::SCALAR_LOWER),
+                colour_from(b, off, c),
+            ),
         ),
     )
 }
@@ -236,8 +257,11 @@ fn elastic_codes(b: &[u8], off: usize, last: u16) -> Answer
     ensures { λ r. ⌜ r ≡ firstFrom off (spec.elasticCodes (now (b .entry)) last) ⌝ }
 {
     first(
-        code(b, off, 8, 1),
-        first(code(b, off, 10, 1), code(b, off, 12, last)),
+        code(b, off, layout::ROW_STRAINED, 1),
+        first(
+            code(b, off, layout::ELASTIC_INVERTED, 1),
+            code(b, off, layout::ELASTIC_FOURTH, last),
+        ),
     )
 }
 
@@ -245,11 +269,14 @@ fn corotational_fields(b: &[u8], off: usize, c: u16) -> Answer
     requires { ⌜ (618 ≤ length (now b)) × (off + length (now b) < 18446744073709551616) ⌝ }
     ensures { λ r. ⌜ r ≡ firstFrom off (spec.corotationalFields (now (b .entry)) c) ⌝ }
 {
-    let caps = first(cap_run(b, off, 374, 6), cap(b, off, 506));
+    let caps = first(
+        cap_run(b, off, layout::ELASTIC_STRAIN_CAP, 6),
+        cap(b, off, layout::CORO_VOL_CAP),
+    );
     first(
         elastic_codes(b, off, 1),
         first(
-            finite_run(b, off, 30, 147),
+            finite_run(b, off, layout::ROW_POS, 147),
             first(caps, colour_from(b, off, c)),
         ),
     )
@@ -262,8 +289,11 @@ fn neo_hookean_fields(b: &[u8], off: usize, c: u16) -> Answer
     first(
         elastic_codes(b, off, 0),
         first(
-            finite_run(b, off, 30, 162),
-            first(cap_run(b, off, 374, 6), colour_from(b, off, c)),
+            finite_run(b, off, layout::ROW_POS, 162),
+            first(
+                cap_run(b, off, layout::ELASTIC_STRAIN_CAP, 6),
+                colour_from(b, off, c),
+            ),
         ),
     )
 }
@@ -272,7 +302,7 @@ fn fields(b: &[u8], off: usize, c: u16) -> Answer
     requires { ⌜ Sized (now b) off ⌝ }
     ensures { λ r. ⌜ r ≡ firstFrom off (spec.fields (now (b .entry)) c) ⌝ }
 {
-    let kind = bytes::get_u16(b, 4);
+    let kind = bytes::get_u16(b, layout::KIND_AT);
     if kind == 1 {
         return head_fields(b, off);
     }
@@ -300,7 +330,7 @@ fn shape(due: Due, s: &[u8], off: usize) -> Answer
         return refuse_if(true, 1, off);
     }
     let len = bytes::get_u32(s, off);
-    if !is_due(due, bytes::get_u16(s, off + 4), len) {
+    if !is_due(due, bytes::get_u16(s, off + layout::KIND_AT), len) {
         return refuse_if(true, 2, off);
     }
     refuse_if(left < 4 + (len as usize), 1, off)

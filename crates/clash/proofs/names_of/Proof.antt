@@ -13,11 +13,20 @@ get-u16-requires c κs = search needs
 id-at-requires : tie.Need-id-at-requires
 id-at-requires c κs = search needs
 
+add-id-at : tie.Need-add-id-at
+add-id-at c = search needs
+
 id-at-requires-2 : tie.Need-id-at-requires-2
 id-at-requires-2 c κs = search needs
 
+add-id-at-2 : tie.Need-add-id-at-2
+add-id-at-2 c = search needs
+
 id-at-requires-3 : tie.Need-id-at-requires-3
 id-at-requires-3 c κs = search needs
+
+add-id-at-3 : tie.Need-add-id-at-3
+add-id-at-3 c = search needs
 
 id-at-requires-4 : tie.Need-id-at-requires-4
 id-at-requires-4 c κs = search needs
@@ -33,7 +42,10 @@ names-of-spec =
     count-of-requires
     get-u16-requires
     id-at-requires
+    add-id-at
     id-at-requires-2
+    add-id-at-2
     id-at-requires-3
+    add-id-at-3
     id-at-requires-4
     returns)
