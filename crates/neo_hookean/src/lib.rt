@@ -13,6 +13,7 @@ use places::Holds;
 use vector::Mat3;
 
 // Neo-Hookean: what no step alters.
+#[repr(C)]
 pub struct Material {
     pub dt: f32,
     pub mu: f32,
@@ -21,12 +22,14 @@ pub struct Material {
 }
 
 // Neo-Hookean: what an update assigns. The strain is the one that `m` and the block's inverse were computed at.
+#[repr(C)]
 pub struct Stiffness {
     pub stiffness_strain: [f32; 6],
     pub m: [f32; 36],
     pub dt_grad: [f32; 6],
 }
 
+#[repr(C)]
 pub struct NeoHookeanRow {
     pub cell: Cell,
     pub pose: Pose,
@@ -37,6 +40,7 @@ pub struct NeoHookeanRow {
 }
 
 // S = I + ε, κ and the gradient of the energy.
+#[repr(C)]
 pub struct Energy {
     pub s: Mat3,
     pub kappa: f32,
