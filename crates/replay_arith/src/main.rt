@@ -5,8 +5,7 @@ mod of_shape;
 mod of_strain;
 mod of_vector;
 
-ghost use Prim.Native.Nat.{_*_, _≤_};
-ghost use lib.ListN.{length};
+ghost use Prim.Native.Nat.{_≤_};
 use of_matrix::Matrix;
 use of_real::Real;
 use of_shape::Shape;
@@ -49,6 +48,7 @@ fn replay_file(t: Tally, name: &[u8], f: Function, size: usize) -> Tally
 
 fn walk(s: &[u8], f: Function, size: usize) -> Tally
     requires { ⌜ (1 ≤ size) × (size ≤ 400) ⌝ }
+    ensures { λ r. ⌜ r .differ ≤ r .records ⌝ }
 {
     let mut records: u64 = 0;
     let mut differ: u64 = 0;

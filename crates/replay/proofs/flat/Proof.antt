@@ -1,3 +1,4 @@
+-- `replay::flat` meets its contract. One float a turn. Assumes nothing.
 use borrow.Author.Needs.{needs}
 use Prim.Native.Nat.{_+_, _-_, _≤_}
 use lib.Ieee.{nan}
@@ -5,9 +6,6 @@ use Rattle.loops.specs.Fill.{Filled, filled-none, filled-more, filled-all}
 use Rattle.replay.specs.Words.{float, flat}
 use Rattle.replay.proofs.flat.Statement.{statement}
 use Rattle.replay.proofs.flat.Tie as tie
-use Rattle.replay.proofs.flat.Reads as reads
-use Rattle.replay.proofs.flat.Lts as lts
-use Rattle.replay.proofs.float.Reads as float-reads
 
 abbrev Inv-loop : tie.InvT-loop
 Inv-loop w k m₀ i₀ m i = Filled nan (λ i. float w (k + i)) 36 m i × (i ≤ 36)
@@ -15,39 +13,30 @@ Inv-loop w k m₀ i₀ m i = Filled nan (λ i. float w (k + i)) 36 m i × (i ≤
 abbrev μ-loop : tie.MeasureT-loop
 μ-loop w k m₀ i₀ m i = 36 - i
 
--- src/lib.rt:99:5
 loop-holds : tie.Need-loop-holds Inv-loop μ-loop
 loop-holds c = (filled-none (search needs), search needs)
 
--- src/lib.rt:100:25
 add-float : tie.Need-add-float Inv-loop μ-loop
 add-float c = search needs
 
--- src/lib.rt:100:16
 float-requires : tie.Need-float-requires Inv-loop μ-loop
 float-requires c κs = search needs
 
--- src/lib.rt:100:9
 mul-m : tie.Need-mul-m Inv-loop μ-loop
 mul-m c = search needs
 
--- src/lib.rt:100:9
 array-write-m : tie.Need-array-write-m Inv-loop μ-loop
 array-write-m c = search needs
 
--- src/lib.rt:101:13
 add-i : tie.Need-add-i Inv-loop μ-loop
 add-i c = search needs
 
--- src/lib.rt:99:5
 loop-less : tie.Need-loop-less Inv-loop μ-loop
 loop-less c = search needs
 
--- src/lib.rt:99:5
 loop-again : tie.Need-loop-again Inv-loop μ-loop
 loop-again c = (filled-more (c .before .before .loop .inv .0) (search needs) (c .float .ensures), search needs)
 
--- src/lib.rt:93:1
 returns : tie.Need-returns Inv-loop μ-loop
 unfolding flat
 returns c = filled-all (c .before .loop .inv .0) (search needs)

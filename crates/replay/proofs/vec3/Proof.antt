@@ -1,32 +1,24 @@
+-- `replay::vec3` meets its contract. The value is its parts. Assumes nothing.
 use borrow.Author.Needs.{needs}
 use Rattle.replay.specs.Words.{vec3}
 use Rattle.replay.proofs.vec3.Statement.{statement}
 use Rattle.replay.proofs.vec3.Tie as tie
-use Rattle.replay.proofs.vec3.Reads as reads
-use Rattle.replay.proofs.vec3.Lts as lts
-use Rattle.replay.proofs.float.Reads as float-reads
 
--- src/lib.rt:38:12
 float-requires : tie.Need-float-requires
 float-requires c κs = search needs
 
--- src/lib.rt:39:21
 add-float : tie.Need-add-float
 add-float c = search needs
 
--- src/lib.rt:39:12
 float-requires-2 : tie.Need-float-requires-2
 float-requires-2 c κs = search needs
 
--- src/lib.rt:40:21
 add-float-2 : tie.Need-add-float-2
 add-float-2 c = search needs
 
--- src/lib.rt:40:12
 float-requires-3 : tie.Need-float-requires-3
 float-requires-3 c κs = search needs
 
--- src/lib.rt:33:1
 returns : tie.Need-returns
 unfolding vec3
 returns c = cc

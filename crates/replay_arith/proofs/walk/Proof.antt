@@ -1,63 +1,51 @@
+-- `replay_arith::walk` meets its contract. Every count is at most the bytes passed. Assumes nothing.
+use borrow.Author.Needs.{needs}
+use Prim.Native.Nat.{_-_, _≤_}
+use lib.ListN.{length}
 use Rattle.replay_arith.proofs.walk.Statement.{statement}
 use Rattle.replay_arith.proofs.walk.Tie as tie
-use Rattle.replay_arith.proofs.walk.Reads as reads
-use Rattle.replay_arith.proofs.walk.Lts as lts
-use Rattle.replay.proofs.record.Reads as record-reads
-use Rattle.replay_arith.proofs.differs.Reads as differs-reads
 
 abbrev Inv-loop : tie.InvT-loop
-Inv-loop s f size records₀ differ₀ at₀ records differ at = ?
+Inv-loop s f size records₀ differ₀ at₀ records differ at = (at ≤ length s) × (records ≤ at) × (differ ≤ records)
 
 abbrev μ-loop : tie.MeasureT-loop
-μ-loop s f size records₀ differ₀ at₀ records differ at = ?
+μ-loop s f size records₀ differ₀ at₀ records differ at = length s - at
 
--- src/main.rt:56:5
 loop-holds : tie.Need-loop-holds Inv-loop μ-loop
-loop-holds c = ?
+loop-holds c = search needs
 
--- src/main.rt:56:11
 mul-loop : tie.Need-mul-loop Inv-loop μ-loop
-mul-loop c = ?
+mul-loop c = search needs
 
--- src/main.rt:56:23
 sub-loop : tie.Need-sub-loop Inv-loop μ-loop
-sub-loop c = ?
+sub-loop c = search needs
 
--- src/main.rt:57:17
 record-requires : tie.Need-record-requires Inv-loop μ-loop
-record-requires c κs = ?
+record-requires c κs = search needs
 
--- src/main.rt:58:27
 differs-requires : tie.Need-differs-requires Inv-loop μ-loop
-differs-requires c κs = ?
+differs-requires c κs = search needs
 
--- src/main.rt:58:18
 add-differ : tie.Need-add-differ Inv-loop μ-loop
-add-differ c = ?
+add-differ c = search needs
 
--- src/main.rt:59:19
 add-records : tie.Need-add-records Inv-loop μ-loop
-add-records c = ?
+add-records c = search needs
 
--- src/main.rt:60:19
 mul-at : tie.Need-mul-at Inv-loop μ-loop
-mul-at c = ?
+mul-at c = search needs
 
--- src/main.rt:60:14
 add-at : tie.Need-add-at Inv-loop μ-loop
-add-at c = ?
+add-at c = search needs
 
--- src/main.rt:56:5
 loop-less : tie.Need-loop-less Inv-loop μ-loop
-loop-less c = ?
+loop-less c = search needs
 
--- src/main.rt:56:5
 loop-again : tie.Need-loop-again Inv-loop μ-loop
-loop-again c = ?
+loop-again c = search needs
 
--- src/main.rt:50:1
 returns : tie.Need-returns Inv-loop μ-loop
-returns c = ?
+returns c = search needs
 
 pub walk-spec : {M : Type 1} → statement M
 walk-spec =

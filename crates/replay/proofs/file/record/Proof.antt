@@ -1,13 +1,11 @@
+-- `replay::file::record` meets its contract. One word a turn. Assumes nothing.
 use borrow.Author.Needs.{needs}
-use Prim.Native.Nat.{_+_, _*_, _-_, _≤_}
+use Prim.Native.Nat.{_-_, _≤_}
 use native.Mathlib.Omega.{arith}
-use Rattle.loops.specs.Fill.{Filled, filled-none, filled-more}
+use Rattle.loops.specs.Fill.{filled-none, filled-more}
 use Rattle.replay.specs.Words.{RecordAt}
 use Rattle.replay.proofs.file.record.Statement.{statement}
 use Rattle.replay.proofs.file.record.Tie as tie
-use Rattle.replay.proofs.file.record.Reads as reads
-use Rattle.replay.proofs.file.record.Lts as lts
-use Rattle.bytes.proofs.get_u32.Reads as get-u32-reads
 
 abbrev Inv-loop : tie.InvT-loop
 Inv-loop s from size w₀ k₀ w k = RecordAt s from k w × (k ≤ size)
@@ -15,43 +13,33 @@ Inv-loop s from size w₀ k₀ w k = RecordAt s from k w × (k ≤ size)
 abbrev μ-loop : tie.MeasureT-loop
 μ-loop s from size w₀ k₀ w k = size - k
 
--- src/file.rt:42:5
 loop-holds : tie.Need-loop-holds Inv-loop μ-loop
 loop-holds c = (filled-none (search needs), search needs)
 
--- src/file.rt:43:41
 mul-get-u32 : tie.Need-mul-get-u32 Inv-loop μ-loop
 mul-get-u32 c = search needs
 
--- src/file.rt:43:34
 add-get-u32 : tie.Need-add-get-u32 Inv-loop μ-loop
 add-get-u32 c = search needs
 
--- src/file.rt:43:16
 get-u32-requires : tie.Need-get-u32-requires Inv-loop μ-loop
 get-u32-requires c κs = search needs
 
--- src/file.rt:43:9
 mul-w : tie.Need-mul-w Inv-loop μ-loop
 mul-w c = search needs
 
--- src/file.rt:43:9
 array-write-w : tie.Need-array-write-w Inv-loop μ-loop
 array-write-w c = search needs
 
--- src/file.rt:44:13
 add-k : tie.Need-add-k Inv-loop μ-loop
 add-k c = search needs
 
--- src/file.rt:42:5
 loop-less : tie.Need-loop-less Inv-loop μ-loop
 loop-less c = search needs
 
--- src/file.rt:42:5
 loop-again : tie.Need-loop-again Inv-loop μ-loop
 loop-again c = (filled-more (c .before .before .loop .inv .0) (search needs) (c .get-u32 .ensures), search needs)
 
--- src/file.rt:36:1
 returns : tie.Need-returns Inv-loop μ-loop
 returns c = record { long = c .before .loop .inv .0 .long; below = λ k b. c .before .loop .inv .0 .below k (omega arith) }
 

@@ -1,3 +1,4 @@
+-- `replay::stored::flat_is` meets its contract. One float a turn. Assumes nothing.
 use borrow.Author.Needs.{needs}
 use Prim.Native.Nat.{_+_, _-_, _≤_}
 use mathlib.Core.Bool.{true, _&&_}
@@ -6,9 +7,6 @@ use Rattle.real.specs.Float.{at}
 use Rattle.replay.specs.Words.{floatIs, flatIs}
 use Rattle.replay.proofs.stored.flat_is.Statement.{statement}
 use Rattle.replay.proofs.stored.flat_is.Tie as tie
-use Rattle.replay.proofs.stored.flat_is.Reads as reads
-use Rattle.replay.proofs.stored.flat_is.Lts as lts
-use Rattle.replay.proofs.stored.float_is.Reads as float-is-reads
 
 abbrev Inv-loop : tie.InvT-loop
 Inv-loop w k m same₀ i₀ same i = Ran 36 (λ i b. b && floatIs w (k + i) (at m i)) true i same × (i ≤ 36)
@@ -16,39 +14,30 @@ Inv-loop w k m same₀ i₀ same i = Ran 36 (λ i b. b && floatIs w (k + i) (at 
 abbrev μ-loop : tie.MeasureT-loop
 μ-loop w k m same₀ i₀ same i = 36 - i
 
--- src/stored.rt:66:5
 loop-holds : tie.Need-loop-holds Inv-loop μ-loop
 loop-holds c = (ran-none, search needs)
 
--- src/stored.rt:67:35
 add-float-is : tie.Need-add-float-is Inv-loop μ-loop
 add-float-is c = search needs
 
--- src/stored.rt:67:42
 mul-float-is : tie.Need-mul-float-is Inv-loop μ-loop
 mul-float-is c = search needs
 
--- src/stored.rt:67:42
 element-copy-out-float-is : tie.Need-element-copy-out-float-is Inv-loop μ-loop
 element-copy-out-float-is c = search needs
 
--- src/stored.rt:67:23
 float-is-requires : tie.Need-float-is-requires Inv-loop μ-loop
 float-is-requires c κs = search needs
 
--- src/stored.rt:68:13
 add-i : tie.Need-add-i Inv-loop μ-loop
 add-i c = search needs
 
--- src/stored.rt:66:5
 loop-less : tie.Need-loop-less Inv-loop μ-loop
 loop-less c = search needs
 
--- src/stored.rt:66:5
 loop-again : tie.Need-loop-again Inv-loop μ-loop
 loop-again c = (ran-more (c .before .before .before .loop .inv .0) (search needs) (cc), search needs)
 
--- src/stored.rt:60:1
 returns : tie.Need-returns Inv-loop μ-loop
 unfolding flatIs
 returns c = ran-all (c .before .loop .inv .0) (search needs)

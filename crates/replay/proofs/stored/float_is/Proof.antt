@@ -1,23 +1,17 @@
+-- `replay::stored::float_is` meets its contract. The word is compared with the float's bits. Assumes nothing.
 use borrow.Author.Needs.{needs}
 use Rattle.replay.proofs.stored.float_is.Statement.{statement}
 use Rattle.replay.proofs.stored.float_is.Tie as tie
-use Rattle.replay.proofs.stored.float_is.Reads as reads
-use Rattle.replay.proofs.stored.float_is.Lts as lts
-use Rattle.bytes.proofs.bits_of.Reads as bits-of-reads
 
--- src/stored.rt:15:5
 mul-result : tie.Need-mul-result
 mul-result c = search needs
 
--- src/stored.rt:15:5
 element-copy-out-result : tie.Need-element-copy-out-result
 element-copy-out-result c = search needs
 
--- src/stored.rt:15:13
 bits-of-requires : tie.Need-bits-of-requires
 bits-of-requires c κs = search needs
 
--- src/stored.rt:11:1
 returns : tie.Need-returns
 returns c = cc
 

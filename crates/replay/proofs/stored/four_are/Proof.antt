@@ -1,40 +1,30 @@
+-- `replay::stored::four_are` meets its contract. The value is compared part by part. Assumes nothing.
 use borrow.Author.Needs.{needs}
 use Rattle.replay.specs.Words.{fourAre}
 use Rattle.replay.proofs.stored.four_are.Statement.{statement}
 use Rattle.replay.proofs.stored.four_are.Tie as tie
-use Rattle.replay.proofs.stored.four_are.Reads as reads
-use Rattle.replay.proofs.stored.four_are.Lts as lts
-use Rattle.replay.proofs.stored.vec3_is.Reads as vec3-is-reads
 
--- src/stored.rt:50:5
 vec3-is-requires : tie.Need-vec3-is-requires
 vec3-is-requires c κs = search needs
 
--- src/stored.rt:50:37
 add-vec3-is : tie.Need-add-vec3-is
 add-vec3-is c = search needs
 
--- src/stored.rt:50:26
 vec3-is-requires-2 : tie.Need-vec3-is-requires-2
 vec3-is-requires-2 c κs = search needs
 
--- src/stored.rt:50:62
 add-vec3-is-2 : tie.Need-add-vec3-is-2
 add-vec3-is-2 c = search needs
 
--- src/stored.rt:50:51
 vec3-is-requires-3 : tie.Need-vec3-is-requires-3
 vec3-is-requires-3 c κs = search needs
 
--- src/stored.rt:50:87
 add-vec3-is-3 : tie.Need-add-vec3-is-3
 add-vec3-is-3 c = search needs
 
--- src/stored.rt:50:76
 vec3-is-requires-4 : tie.Need-vec3-is-requires-4
 vec3-is-requires-4 c κs = search needs
 
--- src/stored.rt:46:1
 returns : tie.Need-returns
 unfolding fourAre
 returns c = cc

@@ -1,32 +1,24 @@
+-- `replay::stored::mat3_is` meets its contract. The value is compared part by part. Assumes nothing.
 use borrow.Author.Needs.{needs}
 use Rattle.replay.specs.Words.{mat3Is}
 use Rattle.replay.proofs.stored.mat3_is.Statement.{statement}
 use Rattle.replay.proofs.stored.mat3_is.Tie as tie
-use Rattle.replay.proofs.stored.mat3_is.Reads as reads
-use Rattle.replay.proofs.stored.mat3_is.Lts as lts
-use Rattle.replay.proofs.stored.vec3_is.Reads as vec3-is-reads
 
--- src/stored.rt:43:5
 vec3-is-requires : tie.Need-vec3-is-requires
 vec3-is-requires c κs = search needs
 
--- src/stored.rt:43:37
 add-vec3-is : tie.Need-add-vec3-is
 add-vec3-is c = search needs
 
--- src/stored.rt:43:26
 vec3-is-requires-2 : tie.Need-vec3-is-requires-2
 vec3-is-requires-2 c κs = search needs
 
--- src/stored.rt:43:62
 add-vec3-is-2 : tie.Need-add-vec3-is-2
 add-vec3-is-2 c = search needs
 
--- src/stored.rt:43:51
 vec3-is-requires-3 : tie.Need-vec3-is-requires-3
 vec3-is-requires-3 c κs = search needs
 
--- src/stored.rt:39:1
 returns : tie.Need-returns
 unfolding mat3Is
 returns c = cc

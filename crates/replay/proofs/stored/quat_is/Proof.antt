@@ -1,25 +1,18 @@
+-- `replay::stored::quat_is` meets its contract. The value is compared part by part. Assumes nothing.
 use borrow.Author.Needs.{needs}
 use Rattle.replay.specs.Words.{quatIs}
 use Rattle.replay.proofs.stored.quat_is.Statement.{statement}
 use Rattle.replay.proofs.stored.quat_is.Tie as tie
-use Rattle.replay.proofs.stored.quat_is.Reads as reads
-use Rattle.replay.proofs.stored.quat_is.Lts as lts
-use Rattle.replay.proofs.stored.float_is.Reads as float-is-reads
-use Rattle.replay.proofs.stored.three_are.Reads as three-are-reads
 
--- src/stored.rt:36:5
 three-are-requires : tie.Need-three-are-requires
 three-are-requires c κs = search needs
 
--- src/stored.rt:36:50
 add-float-is : tie.Need-add-float-is
 add-float-is c = search needs
 
--- src/stored.rt:36:38
 float-is-requires : tie.Need-float-is-requires
 float-is-requires c κs = search needs
 
--- src/stored.rt:32:1
 returns : tie.Need-returns
 unfolding quatIs
 returns c = cc
