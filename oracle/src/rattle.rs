@@ -8,7 +8,8 @@ use crate::called;
 use crate::support::na::SVector;
 use crate::support::real::Real;
 use crate::support::vector::{Matrix, Rotation, Vector};
-use crate::words_of;
+use crate::words::bits;
+use crate::{direct, words_of};
 
 /// A sine and a cosine.
 #[repr(C)]
@@ -124,6 +125,15 @@ fn flat(m: &Six6) -> &Flat36 {
     m.0.as_flattened()
         .try_into()
         .expect("six columns of six are thirty-six")
+}
+
+/// How many of the 2^32 patterns have a root that differs from the oracle's.
+pub fn differing_roots() -> usize {
+    let differs = |&pattern: &u32| {
+        let x = Real::from_bits(pattern);
+        bits(rt_root(x)) != bits(direct::root(x))
+    };
+    (0..=u32::MAX).filter(differs).count()
 }
 
 macro_rules! rattle {

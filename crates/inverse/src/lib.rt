@@ -1,13 +1,14 @@
-// The inverse of a 6x6 matrix, column by column, by elimination with partial pivoting: in place, and only on the entries that change.
+// The inverse of a 6x6 matrix, column by column, by elimination with partial pivoting: in place, and only on the
+// entries that change.
 ghost use mathlib.Core.Bool.{cond};
 ghost use mathlib.Core.Path.{_≡_};
 ghost use Prim.Native.Nat.{_<_};
 ghost use lib.ListN.{length};
 ghost use Rattle.loops.specs.Loops.{upTo};
 ghost use Rattle.strain.specs.Matrix as matrix;
+ghost use Rattle.inverse.specs.Elimination as elimination;
+ghost use Rattle.inverse.specs.Factors.{state, going};
 ghost use Rattle.inverse.specs.Inverse as spec;
-ghost use Rattle.inverse.specs.Steps as steps;
-
 use real::abs;
 use real::pick;
 
@@ -47,7 +48,7 @@ fn swap_rows(m: &mut [f32; 36], p: usize, j: usize)
 // Column j below the pivot becomes the multipliers.
 fn scale(m: &mut [f32; 36], j: usize, inv: f32)
     requires { ⌜ j < 6 ⌝ }
-    ensures { λ _. ⌜ now (m .exit) ≡ steps.scaled j inv (now (m .entry)) ⌝ }
+    ensures { λ _. ⌜ now (m .exit) ≡ elimination.scaled j inv (now (m .entry)) ⌝ }
 {
     for i in j + 1..6 {
         m[j * 6 + i] = m[j * 6 + i] * inv;
@@ -57,7 +58,7 @@ fn scale(m: &mut [f32; 36], j: usize, inv: f32)
 // Column k below row j loses the multipliers times its entry in row j.
 fn reduce(m: &mut [f32; 36], j: usize, k: usize)
     requires { ⌜ (j < 6) × (k < 6) ⌝ }
-    ensures { λ _. ⌜ now (m .exit) ≡ steps.reduced j k (now (m .entry)) ⌝ }
+    ensures { λ _. ⌜ now (m .exit) ≡ elimination.reduced j k (now (m .entry)) ⌝ }
 {
     let x = m[k * 6 + j];
     for i in j + 1..6 {
@@ -87,7 +88,7 @@ fn swap_places(rows: &mut [usize; 6], p: usize, j: usize)
 // False where the pivot of column j is zero.
 fn factor_column(m: &mut [f32; 36], rows: &mut [usize; 6], j: usize) -> bool
     requires { ⌜ (length (now m) ≡ 36) × (j < 6) ⌝ }
-    ensures { λ r. ⌜ steps.state (now (m .exit)) (now (rows .exit)) r ≡ spec.factorColumn j (steps.going (now (m .entry)) (now (rows .entry))) ⌝ }
+    ensures { λ r. ⌜ state (now (m .exit)) (now (rows .exit)) r ≡ spec.factorColumn j (going (now (m .entry)) (now (rows .entry))) ⌝ }
     ensures { λ r. ⌜ length (now (m .exit)) ≡ 36 ⌝ }
 {
     let p = pivot_row(m, j);
@@ -104,7 +105,7 @@ fn factor_column(m: &mut [f32; 36], rows: &mut [usize; 6], j: usize) -> bool
 // False where a pivot is zero.
 fn factor(m: &mut [f32; 36], rows: &mut [usize; 6]) -> bool
     requires { ⌜ length (now m) ≡ 36 ⌝ }
-    ensures { λ r. ⌜ steps.state (now (m .exit)) (now (rows .exit)) r ≡ upTo 6 spec.factorColumn (steps.going (now (m .entry)) (now (rows .entry))) ⌝ }
+    ensures { λ r. ⌜ state (now (m .exit)) (now (rows .exit)) r ≡ upTo 6 spec.factorColumn (going (now (m .entry)) (now (rows .entry))) ⌝ }
 {
     for j in 0usize..6 {
         if !factor_column(m, rows, j) {
@@ -168,7 +169,7 @@ fn backward(m: &[f32; 36], x: &mut [f32; 6])
 }
 
 fn solve_column(m: &[f32; 36], rows: &[usize; 6], c: usize) -> [f32; 6]
-    ensures { λ r. ⌜ r ≡ spec.solveColumn (steps.going (now (m .entry)) (now (rows .entry))) c ⌝ }
+    ensures { λ r. ⌜ r ≡ spec.solveColumn (going (now (m .entry)) (now (rows .entry))) c ⌝ }
 {
     let mut x = unit(rows, c);
     forward(m, &mut x);
@@ -178,7 +179,7 @@ fn solve_column(m: &[f32; 36], rows: &[usize; 6], c: usize) -> [f32; 6]
 
 // The inverse of the matrix that has these factors.
 fn solve(m: &[f32; 36], rows: &[usize; 6]) -> [f32; 36]
-    ensures { λ r. ⌜ r ≡ matrix.fromFn (spec.solvedAt (steps.going (now (m .entry)) (now (rows .entry)))) ⌝ }
+    ensures { λ r. ⌜ r ≡ matrix.fromFn (spec.solvedAt (going (now (m .entry)) (now (rows .entry)))) ⌝ }
 {
     let mut r = [0.0f32; 36];
     for c in 0usize..6 {

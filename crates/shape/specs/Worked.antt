@@ -14,7 +14,7 @@ use Rattle.vector.specs.Quaternion.{toMatrix}
 use Rattle.vector.specs.declared.Vec3.{Vec3}
 use Rattle.vector.specs.declared.Four.{Four}
 use Rattle.vector.specs.declared.Quat.{Quat}
-use Rattle.shape.specs.Rotation.{crossSum, dotSum, omega, settled, extractRotation}
+use Rattle.shape.specs.Rotation.{crossSum, dotSum, correction, settled, extractRotation}
 use Rattle.shape.specs.Cell.{cellEdgeMatrix, cellVolume, faceGradient, cellVolumeGradients}
 
 abbrev vec : Float → Float → Float → Vec3
@@ -47,5 +47,5 @@ worked =
     ∷ []
 
 pub holds : Holds worked
-unfolding cellEdgeMatrix cellVolume faceGradient cellVolumeGradients crossSum dotSum omega settled extractRotation identity toMatrix zeroVector add sub neg scale divide dot cross lengthOf abs rootOf isNan toBits ofBits ieee.ofFields ieee.lt ieee.add ieee.sub ieee.neg ieee.mul ieee.div ieee.sum ieee.round ieee.units ieee.odd ieee.span ieee.climb ieee.size
+unfolding cellEdgeMatrix cellVolume faceGradient cellVolumeGradients crossSum dotSum correction settled extractRotation identity toMatrix zeroVector add sub neg scale divide dot cross lengthOf abs rootOf isNan toBits ofBits ieee.ofFields ieee.lt ieee.add ieee.sub ieee.neg ieee.mul ieee.div ieee.sum ieee.round ieee.units ieee.odd ieee.span ieee.climb ieee.size
 holds = (refl, (refl, (refl, (refl, tt))))

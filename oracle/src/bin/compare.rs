@@ -117,16 +117,16 @@ fn compare(function: &Function, call: Option<Call>, count: usize, seed: u64) -> 
     differing
 }
 
-/// The root of every pattern.
+/// The root of every pattern, all NaNs among them.
+#[cfg(feature = "rattle")]
 fn all_roots() -> ExitCode {
-    let Some(call) = linked("root") else {
-        println!("root: not linked");
-        return ExitCode::from(2);
-    };
-    let answer = oracle::answers::function("root").answer;
-    let differing = (0..=u32::MAX)
-        .filter(|&pattern| answer(&[pattern]) != call(&[pattern]))
-        .count();
+    let differing = oracle::rattle::differing_roots();
     println!("root: all 4294967296 patterns, {differing} differ");
     ExitCode::from(u8::from(differing != 0))
+}
+
+#[cfg(not(feature = "rattle"))]
+fn all_roots() -> ExitCode {
+    println!("root: not linked");
+    ExitCode::from(2)
 }

@@ -3,7 +3,7 @@ use borrow.Author.Needs.{needs}
 use Prim.Native.Nat.{_+_, _-_}
 use mathlib.Core.Path.{_∙_}
 use Rattle.loops.specs.Between.{Went, went-none, went-more, went-all}
-use Rattle.inverse.specs.Steps.{reduced, eliminate-all}
+use Rattle.inverse.specs.Elimination.{reduced, eliminate-all}
 use Rattle.inverse.proofs.eliminate.Statement.{statement}
 use Rattle.inverse.proofs.eliminate.Tie as tie
 

@@ -6,7 +6,7 @@ use lib.ListN.{length}
 use borrow.Author.Tests.{not-true, not-false}
 use Rattle.loops.specs.Loops.{Ran, ran-none, ran-more, ran-all}
 use Rattle.inverse.specs.Inverse.{factorColumn}
-use Rattle.inverse.specs.Steps.{going, factor-none, factor-some}
+use Rattle.inverse.specs.Factors.{going, factor-none, factor-some}
 use Rattle.inverse.proofs.factor.Statement.{statement}
 use Rattle.inverse.proofs.factor.Tie as tie
 

@@ -1,6 +1,8 @@
 -- `inverse::factor_column` meets its contract. One law for each return. Assumes nothing.
 use borrow.Author.Needs.{needs}
-use Rattle.inverse.specs.Steps.{length-swapRows, length-eliminate, factor-stops, factor-goes}
+use Rattle.inverse.specs.Pivot.{length-swapRows}
+use Rattle.inverse.specs.Elimination.{length-eliminate}
+use Rattle.inverse.specs.Factors.{factor-stops, factor-goes}
 use Rattle.inverse.proofs.factor_column.Statement.{statement}
 use Rattle.inverse.proofs.factor_column.Tie as tie
 

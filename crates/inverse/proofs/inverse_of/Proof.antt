@@ -1,7 +1,7 @@
 -- `inverse::inverse_of` meets its contract. The factors are the definition's, and there is a law for each return. Assumes nothing.
 use borrow.Author.Needs.{needs}
 use borrow.Author.Tests.{not-true, not-false}
-use Rattle.inverse.specs.Steps.{factor-all, inverse-none, inverse-some}
+use Rattle.inverse.specs.Factors.{factor-all, inverse-none, inverse-some}
 use Rattle.inverse.proofs.inverse_of.Statement.{statement}
 use Rattle.inverse.proofs.inverse_of.Tie as tie
 

@@ -1,7 +1,7 @@
 -- `inverse::pivot_row` meets its contract. `Best` carries the row and its magnitude. Assumes nothing.
 use borrow.Author.Needs.{needs}
 use Prim.Native.Nat.{_-_}
-use Rattle.inverse.specs.Steps.{Best, best-none, best-more, best-all}
+use Rattle.inverse.specs.Pivot.{Best, best-none, best-more, best-all}
 use Rattle.inverse.proofs.pivot_row.Statement.{statement}
 use Rattle.inverse.proofs.pivot_row.Tie as tie
 

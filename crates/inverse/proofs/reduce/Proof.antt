@@ -3,7 +3,7 @@ use borrow.Author.Needs.{needs}
 use Prim.Native.Nat.{_+_, _-_}
 use mathlib.Core.Path.{refl}
 use Rattle.loops.specs.Between.{Went, went-none, went-more, went-all}
-use Rattle.inverse.specs.Steps.{reduceStep, reduced}
+use Rattle.inverse.specs.Elimination.{reduceStep, reduced}
 use Rattle.inverse.proofs.reduce.Statement.{statement}
 use Rattle.inverse.proofs.reduce.Tie as tie
 

@@ -3,7 +3,7 @@ use borrow.Author.Needs.{needs}
 use Prim.Native.Nat.{_+_, _-_}
 use mathlib.Core.Path.{refl}
 use Rattle.loops.specs.Between.{Went, went-none, went-more, went-all}
-use Rattle.inverse.specs.Steps.{scaleStep, scaled}
+use Rattle.inverse.specs.Elimination.{scaleStep, scaled}
 use Rattle.inverse.proofs.scale.Statement.{statement}
 use Rattle.inverse.proofs.scale.Tie as tie
 

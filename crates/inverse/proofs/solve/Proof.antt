@@ -3,7 +3,7 @@ use borrow.Author.Needs.{needs}
 use Prim.Native.Nat.{_-_}
 use Rattle.strain.specs.Columns.{Columns, columns-none, columns-more, columns-all}
 use Rattle.inverse.specs.Inverse.{solvedAt}
-use Rattle.inverse.specs.Steps.{going, solved-column}
+use Rattle.inverse.specs.Factors.{going, solved-column}
 use Rattle.inverse.proofs.solve.Statement.{statement}
 use Rattle.inverse.proofs.solve.Tie as tie
 

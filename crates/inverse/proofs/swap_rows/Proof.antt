@@ -3,7 +3,7 @@ use borrow.Author.Needs.{needs}
 use Prim.Native.Nat.{_-_}
 use mathlib.Core.Path.{refl, _∙_}
 use Rattle.loops.specs.Loops.{Ran, ran-none, ran-more, ran-all}
-use Rattle.inverse.specs.Steps.{swapStep, swap-all}
+use Rattle.inverse.specs.Pivot.{swapStep, swap-all}
 use Rattle.inverse.proofs.swap_rows.Statement.{statement}
 use Rattle.inverse.proofs.swap_rows.Tie as tie
 

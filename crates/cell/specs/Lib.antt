@@ -1,0 +1,4 @@
+-- What both elastic rows share. Assumes nothing.
+pub mod Strain
+pub mod Columns
+pub mod Cell

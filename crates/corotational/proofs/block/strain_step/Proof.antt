@@ -1,0 +1,22 @@
+-- `corotational::block::strain_step` meets its contract. Its calls are the definition's. Assumes nothing.
+use borrow.Author.Needs.{needs}
+use Rattle.corotational.specs.Corotational.{strainStep}
+use Rattle.corotational.proofs.block.strain_step.Statement.{statement}
+use Rattle.corotational.proofs.block.strain_step.Tie as tie
+
+strain-rates-requires : tie.Need-strain-rates-requires
+strain-rates-requires c κs = search needs
+
+residual-requires : tie.Need-residual-requires
+residual-requires c κs = search needs
+
+mat-vec-requires : tie.Need-mat-vec-requires
+mat-vec-requires c κs = search needs
+
+returns : tie.Need-returns
+unfolding strainStep
+returns c = cc
+
+pub strain-step-spec : {M : Type 1} → statement M
+strain-step-spec =
+    tie.close (tie.spec strain-rates-requires residual-requires mat-vec-requires returns)

@@ -1,0 +1,3 @@
+-- The corotational row. Assumes nothing.
+pub mod Corotational
+pub mod Row

@@ -1,0 +1,142 @@
+// One iteration of the block: the volumetric row first, then the strain rows. And the warm start.
+ghost use mathlib.Core.Path.{_≡_};
+ghost use Rattle.corotational.specs.Corotational as spec;
+use crate::Volume;
+use cell::Impulses;
+use cell::Solved;
+use cell::solve::strain_rates;
+use cell::solve::volume_losses;
+use places::Held;
+use places::Holds;
+use places::Masses;
+use strain::add6;
+use strain::component_mul6;
+use strain::dot6;
+use strain::mat_vec;
+use strain::scale6;
+use strain::sub6;
+use vector::Four;
+use vector::Mat3;
+use vector::Vec3;
+
+fn add_rate(r: f32, g: Vec3, h: Held) -> f32
+    ensures { λ t. ⌜ t ≡ spec.addRate r g h ⌝ }
+{
+    real::pick(h.named, r + vector::dot(g, h.value), r)
+}
+
+fn volume_rate(g: Four, vel: Holds) -> f32
+    ensures { λ r. ⌜ r ≡ spec.volumeRate g vel ⌝ }
+{
+    let a = add_rate(0.0, g.a, vel.a);
+    let b = add_rate(a, g.b, vel.b);
+    let c = add_rate(b, g.c, vel.c);
+    add_rate(c, g.d, vel.d)
+}
+
+fn residual(
+    erp: &[f32; 6],
+    cfm: &[f32; 6],
+    strain: &[f32; 6],
+    impulse: &[f32; 6],
+    rate: &[f32; 6],
+) -> [f32; 6]
+    ensures { λ r. ⌜ r ≡ spec.residual (now (erp .entry)) (now (cfm .entry)) (now (strain .entry)) (now (impulse .entry)) (now (rate .entry)) ⌝ }
+{
+    let pull = component_mul6(erp, strain);
+    let give = component_mul6(cfm, impulse);
+    let sum = add6(rate, &pull);
+    sub6(&sum, &give)
+}
+
+// What the strain rows would take if there were no volumetric row.
+fn strain_step(
+    rot: Mat3,
+    coeffs: Four,
+    strain: &[f32; 6],
+    inv_a: &[f32; 36],
+    erp: &[f32; 6],
+    cfm: &[f32; 6],
+    impulse: &[f32; 6],
+    vel: Holds,
+) -> [f32; 6]
+    ensures { λ r. ⌜ r ≡ spec.strainStep rot coeffs (now (strain .entry)) (now («inv_a» .entry)) (now (erp .entry)) (now (cfm .entry)) (now (impulse .entry)) vel ⌝ }
+{
+    let rate = strain_rates(rot, coeffs, vel);
+    let res = residual(erp, cfm, strain, impulse, &rate);
+    mat_vec(inv_a, &res)
+}
+
+fn volume_step(u: Volume, impulse: f32, rate: f32, y: &[f32; 6]) -> f32
+    ensures { λ r. ⌜ r ≡ spec.volumeStep u impulse rate (now (y .entry)) ⌝ }
+{
+    let b = u.b;
+    u.inv_s * (u.rhs_vol - u.cfm_gain_vol * impulse + rate - dot6(&b, y))
+}
+
+// Strain impulses d and a volumetric impulse x more.
+fn applied(
+    rot: Mat3,
+    coeffs: Four,
+    im: Masses,
+    l: Impulses,
+    d: &[f32; 6],
+    grad: Four,
+    x: f32,
+) -> Solved
+    ensures { λ r. ⌜ r ≡ spec.applied rot coeffs im l (now (d .entry)) grad x ⌝ }
+{
+    let old = l.strain;
+    let strain = add6(&old, d);
+    let loss = volume_losses(rot, coeffs, im, d, grad, x);
+    Solved {
+        impulses: Impulses {
+            strain,
+            vol: l.vol + x,
+        },
+        loss,
+    }
+}
+
+pub fn solve_corotational(
+    rot: Mat3,
+    coeffs: Four,
+    im: Masses,
+    strain: &[f32; 6],
+    inv_a: &[f32; 36],
+    erp: &[f32; 6],
+    cfm: &[f32; 6],
+    l: Impulses,
+    u: Volume,
+    vel: Holds,
+) -> Solved
+    ensures { λ r. ⌜ r ≡ spec.solveCorotational rot coeffs im (now (strain .entry)) (now («inv_a» .entry)) (now (erp .entry)) (now (cfm .entry)) l u vel ⌝ }
+{
+    let impulse = l.strain;
+    let y = strain_step(rot, coeffs, strain, inv_a, erp, cfm, &impulse, vel);
+    let x = volume_step(u, l.vol, volume_rate(u.grad_vol, vel), &y);
+    let z = u.z;
+    let correction = scale6(&z, x);
+    let d = sub6(&y, &correction);
+    applied(rot, coeffs, im, l, &d, u.grad_vol, x)
+}
+
+pub fn warmstart_corotational(
+    rot: Mat3,
+    coeffs: Four,
+    im: Masses,
+    l: Impulses,
+    grad: Four,
+    coeff: f32,
+) -> Solved
+    ensures { λ r. ⌜ r ≡ spec.warmstartCorotational rot coeffs im l grad coeff ⌝ }
+{
+    let old = l.strain;
+    let strain = scale6(&old, coeff);
+    let vol = l.vol * coeff;
+    let loss = volume_losses(rot, coeffs, im, &strain, grad, vol);
+    Solved {
+        impulses: Impulses { strain, vol },
+        loss,
+    }
+}

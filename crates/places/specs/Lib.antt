@@ -1,0 +1,2 @@
+-- The four places of a row. Assumes nothing.
+pub mod Places
