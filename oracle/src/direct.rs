@@ -4,8 +4,11 @@
 use crate::answers::Six6;
 use crate::dynamics::soft_body::soft_body_shape_matching;
 use crate::dynamics::solver::soft_element_constraint as listed;
+use crate::rows::{CorotationalRow, NeoHookeanRow, Points, Row, ScalarRow};
+use crate::support::bodies::SolverBodies;
 use crate::support::real::{self, Real};
 use crate::support::vector::{Matrix, Rotation, Vector};
+use std::hint::black_box;
 
 /// Eigenvalues, and the eigenvectors as columns.
 #[repr(C)]
@@ -38,4 +41,53 @@ pub extern "C" fn symmetric_eigen(m: Matrix) -> Eigen {
 #[inline(never)]
 pub extern "C" fn extract_rotation(a: Matrix, warm: Rotation) -> Rotation {
     soft_body_shape_matching::extract_rotation(a, warm)
+}
+
+/// What is timed of a row that is ready with its points.
+pub trait RowCalls {
+    /// Updates a copy of the row.
+    fn update(&self);
+    /// Solves the row as the last solve left it, and alters its points.
+    fn solve(&mut self);
+}
+
+/// A row as the listed Rust has it.
+struct Ready<R: Row> {
+    row: R::Listed,
+    bodies: SolverBodies,
+}
+
+impl<R: Row> Ready<R> {
+    fn new(points: &Points, row: R) -> Self {
+        Self {
+            row: row.to_listed(),
+            bodies: points.bodies(),
+        }
+    }
+}
+
+impl<R: Row> RowCalls for Ready<R> {
+    #[inline(never)]
+    fn update(&self) {
+        let mut row = self.row;
+        R::update(&mut row, &self.bodies);
+        black_box(&row);
+    }
+
+    #[inline(never)]
+    fn solve(&mut self) {
+        R::solve(&mut self.row, &mut self.bodies);
+    }
+}
+
+pub fn scalar(points: Points, row: ScalarRow) -> impl RowCalls {
+    Ready::new(&points, row)
+}
+
+pub fn corotational(points: Points, row: CorotationalRow) -> impl RowCalls {
+    Ready::new(&points, row)
+}
+
+pub fn neo_hookean(points: Points, row: NeoHookeanRow) -> impl RowCalls {
+    Ready::new(&points, row)
 }

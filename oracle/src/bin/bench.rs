@@ -1,10 +1,14 @@
 //! Times the Rattle functions beside the oracle in one run: nanoseconds of each, best of several repetitions, and the ratio.
 
 use oracle::answers::Six6;
-use oracle::direct;
-use oracle::inputs::{near_rotation, stretched, unit_rotation};
+use oracle::direct::{self, RowCalls};
+use oracle::inputs::{
+    Typical, near_rotation, stretched, typical_corotational, typical_neo_hookean, typical_scalar,
+    unit_rotation,
+};
 use oracle::random::Random;
-use oracle::rattle;
+use oracle::rattle::{self, Linked, ready};
+use oracle::rows::Points;
 use oracle::support::na::SMatrix;
 use oracle::support::vector::{Matrix, Rotation};
 use std::hint::black_box;
@@ -13,8 +17,8 @@ use std::time::Instant;
 /// How many inputs are gone through again and again.
 const INPUTS: usize = 512;
 /// How many times the inputs are gone through for one timing, and how many timings there are.
-const ROUNDS: usize = 10;
-const TIMINGS: usize = 200;
+const ROUNDS: usize = 2;
+const TIMINGS: usize = 1000;
 
 /// Prints the shortest time of a call of each, in nanoseconds. The two take turns, so that what else the machine does meets both.
 fn race<T>(name: &str, inputs: &[T], mut rattle: impl FnMut(&T), mut oracle: impl FnMut(&T)) {
@@ -32,7 +36,7 @@ fn race<T>(name: &str, inputs: &[T], mut rattle: impl FnMut(&T), mut oracle: imp
         second = second.min(timing(&mut |inputs| inputs.iter().for_each(&mut oracle)));
     }
     println!(
-        "{name:<28} Rattle {first:>7.1} ns   oracle {second:>7.1} ns   ratio {:.2}",
+        "{name:<30} Rattle {first:>7.1} ns   oracle {second:>7.1} ns   ratio {:.2}",
         first / second
     );
 }
@@ -43,6 +47,8 @@ fn main() {
     six_rows(random);
     eigen(random);
     rotations(random);
+    scalar_rows(random);
+    elastic_rows(random);
 }
 
 fn roots(random: &mut Random) {
@@ -153,5 +159,65 @@ fn rotations(random: &mut Random) {
                 black_box(direct::extract_rotation(a, warm));
             },
         );
+    }
+}
+
+/// Times the update of a row: each call gathers the positions of its points and gives a row anew. (The oracle's row is copied, since
+/// the listed update alters it.)
+fn race_update<R: Linked, O: RowCalls>(
+    name: &str,
+    rows: &[Typical<R>],
+    oracle: fn(Points, R) -> O,
+) {
+    let pairs: Vec<_> = rows
+        .iter()
+        .map(|t| (ready(t.points, t.row), oracle(t.points, t.row)))
+        .collect();
+    race(name, &pairs, |pair| pair.0.update(), |pair| pair.1.update());
+}
+
+/// Times the solve of a row that was updated: each call gathers the velocities of its points, alters the row's impulses, and takes
+/// from the points what they lose. (The listed solve works in place; a Rattle row is handed over by value, and that copy counts.)
+fn race_solve<R: Linked, O: RowCalls>(name: &str, rows: &[Typical<R>], oracle: fn(Points, R) -> O) {
+    let mut ours: Vec<_> = rows.iter().map(|t| ready(t.points, t.updated)).collect();
+    let mut theirs: Vec<_> = rows.iter().map(|t| oracle(t.points, t.updated)).collect();
+    let places: Vec<usize> = (0..rows.len()).collect();
+    race(
+        name,
+        &places,
+        |&place| ours[place].solve(),
+        |&place| theirs[place].solve(),
+    );
+}
+
+fn scalar_rows(random: &mut Random) {
+    for (kind, name) in ["distance", "dihedral", "cell volume"]
+        .into_iter()
+        .enumerate()
+    {
+        let rows: Vec<_> = (0..INPUTS)
+            .map(|_| typical_scalar(random, kind as u32))
+            .collect();
+        race_update(&format!("{name}, update"), &rows, direct::scalar);
+        race_solve(&format!("{name}, solve"), &rows, direct::scalar);
+    }
+}
+
+fn elastic_rows(random: &mut Random) {
+    let rows: Vec<_> = (0..INPUTS).map(|_| typical_corotational(random)).collect();
+    race_update("corotational, update", &rows, direct::corotational);
+    race_solve("corotational, solve", &rows, direct::corotational);
+    for (name, kept) in [("kept", true), ("renewed", false)] {
+        let rows: Vec<_> = (0..INPUTS)
+            .map(|_| typical_neo_hookean(random, kept))
+            .collect();
+        race_update(
+            &format!("neo-Hookean, update, {name}"),
+            &rows,
+            direct::neo_hookean,
+        );
+        if kept {
+            race_solve("neo-Hookean, solve", &rows, direct::neo_hookean);
+        }
     }
 }

@@ -19,12 +19,24 @@ words_of!(Four {
     places: [Vector; 4]
 });
 
-/// What a place holds, a position or a velocity, and whether the row names it.
+/// What a place holds, a position or a velocity.
 #[repr(C)]
 #[derive(Clone, Copy, Debug)]
 pub struct Held {
-    pub named: bool,
-    pub value: Vector,
+    /// Whether the row names the place: 1 or 0. A `bool` and the three bytes of no meaning after it, which make whole words slow to
+    /// put together.
+    named: u32,
+    value: Vector,
+}
+
+impl Held {
+    #[inline]
+    pub fn new(named: bool, value: Vector) -> Self {
+        Self {
+            named: u32::from(named),
+            value,
+        }
+    }
 }
 
 #[repr(C)]

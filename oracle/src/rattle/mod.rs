@@ -17,6 +17,7 @@ mod rows;
 pub use arithmetic::{
     differing_roots, rt_extract_rotation, rt_mat_mul, rt_root, rt_symmetric_eigen, rt_try_inverse,
 };
+pub use rows::{Linked, ready};
 
 use crate::answers::Call;
 

@@ -8,12 +8,13 @@ use super::laid::{
     SolvedScalar,
 };
 use crate::answers::{Call, Six, Six6};
+use crate::direct::RowCalls;
 use crate::inputs::SKIPPED;
 use crate::rows::{CorotationalRow, Head, NeoHookeanRow, POINTS, Point, Points, ScalarRow};
 use crate::support::na::{SMatrix, SVector};
 use crate::support::real::Real;
 use crate::support::vector::{Matrix, Vector};
-use std::array::from_fn;
+use std::hint::black_box;
 
 // A reference is a pointer that is neither null nor shared where it is written: the functions are safe to call so.
 unsafe extern "C" {
@@ -91,24 +92,29 @@ impl Linked for ScalarRow {
         self.count as usize
     }
 
+    #[inline]
     fn update(laid: &Scalar, held: Holds) -> Scalar {
         rt_scalar_update(*laid, held)
     }
 
+    #[inline]
     fn begin(laid: &Scalar, held: Holds) -> Scalar {
         rt_scalar_begin(*laid, held)
     }
 
+    #[inline]
     fn is_strained(laid: &Scalar, least: Real) -> bool {
         rt_scalar_is_strained(*laid, least)
     }
 
+    #[inline]
     fn warmstart(laid: &mut Scalar, coefficient: Real) -> Loss {
         let solved = rt_scalar_warmstart(*laid, coefficient);
         *laid = solved.row;
         solved.loss
     }
 
+    #[inline]
     fn solve(laid: &mut Scalar, held: Holds) -> Loss {
         let solved = rt_scalar_solve(*laid, held);
         *laid = solved.row;
@@ -141,24 +147,29 @@ macro_rules! linked_elastic {
                 4
             }
 
+            #[inline]
             fn update(laid: &$laid, held: Holds) -> $laid {
                 $update(*laid, held)
             }
 
+            #[inline]
             fn begin(laid: &$laid, held: Holds) -> $laid {
                 $update(*laid, held)
             }
 
+            #[inline]
             fn is_strained(laid: &$laid, least: Real) -> bool {
                 rt_elastic_is_strained(&laid.pose.strain, least)
             }
 
+            #[inline]
             fn warmstart(laid: &mut $laid, coefficient: Real) -> Loss {
                 let solved = $warmstart(*laid, coefficient);
                 laid.impulses = solved.impulses;
                 solved.loss
             }
 
+            #[inline]
             fn solve(laid: &mut $laid, held: Holds) -> Loss {
                 let solved = $solve(*laid, held);
                 laid.impulses = solved.impulses;
@@ -186,29 +197,31 @@ linked_elastic!(
 // Between the row functions and the points.
 
 /// What the row's places hold: zeros where an id is out of range.
-fn gathered<R: Linked>(row: &R, points: &Points, of: fn(&Point) -> Vector) -> Holds {
+#[inline]
+fn gathered<R: Linked>(row: &R, points: &Points, of: impl Fn(&Point) -> Vector) -> Holds {
     let present = &points.points[..points.n as usize];
     let held = |place: usize| {
         let id = row.ids()[place];
-        Held {
-            named: place < row.count() && id != SKIPPED,
-            value: present.get(id as usize).map_or(Vector::ZERO, of),
-        }
+        let named = place < row.count() && id != SKIPPED;
+        Held::new(named, present.get(id as usize).map_or(Vector::ZERO, &of))
     };
     Holds {
-        places: from_fn(held),
+        places: [held(0), held(1), held(2), held(3)],
     }
 }
 
+#[inline]
 fn positions<R: Linked>(row: &R, points: &Points) -> Holds {
     gathered(row, points, |point| point.position)
 }
 
+#[inline]
 fn velocities<R: Linked>(row: &R, points: &Points) -> Holds {
     gathered(row, points, |point| point.velocity)
 }
 
 /// Takes from each named point what its place is to lose: twice from one that is named twice.
+#[inline]
 fn lose<R: Linked>(row: &R, points: &mut Points, loss: Loss) {
     let present = &mut points.points[..points.n as usize];
     for (&id, loss) in row.ids().iter().zip(loss).take(row.count()) {
@@ -268,6 +281,35 @@ fn resweep_step<R: Linked>(points: Points, mut row: R) -> (R, Velocities) {
         solve(points, row)
     } else {
         (row, after(&points))
+    }
+}
+
+/// A row as the Rattle functions take it.
+struct Ready<R: Linked> {
+    row: R,
+    laid: R::Laid,
+    points: Points,
+}
+
+impl<R: Linked> RowCalls for Ready<R> {
+    #[inline(never)]
+    fn update(&self) {
+        black_box(&R::update(&self.laid, positions(&self.row, &self.points)));
+    }
+
+    #[inline(never)]
+    fn solve(&mut self) {
+        let loss = R::solve(&mut self.laid, velocities(&self.row, &self.points));
+        lose(&self.row, &mut self.points, loss);
+    }
+}
+
+/// A row that is ready to be timed.
+pub fn ready<R: Linked>(points: Points, row: R) -> impl RowCalls {
+    Ready {
+        row,
+        laid: row.laid(),
+        points,
     }
 }
 
