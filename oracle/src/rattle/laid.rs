@@ -23,8 +23,7 @@ words_of!(Four {
 #[repr(C)]
 #[derive(Clone, Copy, Debug)]
 pub struct Held {
-    /// Whether the row names the place: 1 or 0. A `bool` and the three bytes of no meaning after it, which make whole words slow to
-    /// put together.
+    /// Whether the row names the place: a `bool` there, here a word of 1 or 0, so that no byte is without a value.
     named: u32,
     value: Vector,
 }
