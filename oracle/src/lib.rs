@@ -6,8 +6,11 @@
 
 pub mod answers;
 pub mod branches;
+pub mod check;
 pub mod direct;
+pub mod frames;
 pub mod inputs;
+pub mod layout;
 mod listed;
 pub mod random;
 #[cfg(feature = "rattle")]
