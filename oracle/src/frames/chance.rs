@@ -6,6 +6,8 @@ use super::{Visit, number_at, write};
 use crate::layout::{HEAD, MOST, OVERFLOW, POINT, ROWS, Record, START};
 use crate::random::Random;
 
+/// The sort of frame that is always accepted.
+pub const ACCEPTED: &str = "by chance: accepted";
 /// How many damaged frames are made of one accepted frame.
 const DAMAGED: usize = 12;
 
@@ -14,7 +16,7 @@ pub fn some(random: &mut Random, visit: &mut Visit) {
     let (points, rows) = sizes(random);
     let kinds = kinds(random, rows);
     let frame = accepted(random, points, &kinds);
-    visit("by chance: accepted", &frame.bytes);
+    visit(ACCEPTED, &frame.bytes);
     for _ in 0..DAMAGED {
         let mut bytes = frame.bytes.clone();
         damage(random, &frame, &mut bytes);

@@ -8,6 +8,7 @@ mod rule;
 mod values;
 
 pub use accepted::{Frame, accepted, kinds};
+pub use chance::{ACCEPTED, some};
 
 use crate::random::Random;
 use std::cell::Cell;
@@ -23,15 +24,10 @@ pub fn each(seed: u64, count: u64, visit: &mut Visit) {
         visit(sort, frame);
     };
     rule::all(&mut Random::new(seed, "frames by rule"), &mut counted);
-    let mut random = Random::new(seed, "frames by chance");
+    let random = &mut Random::new(seed, "frames by chance");
     while seen.get() < count {
-        chance::some(&mut random, &mut counted);
+        chance::some(random, &mut counted);
     }
-}
-
-/// Visits the frames by rule alone.
-pub fn each_by_rule(seed: u64, visit: &mut Visit) {
-    each(seed, 0, visit);
 }
 
 /// The number of two or four bytes at a place.
