@@ -1,8 +1,11 @@
-//! The sample in the repository is what the oracle answers, and what its seed makes.
+//! The samples in the repository are what the oracle answers, and what their seed makes.
 
 use oracle::answers::{FUNCTIONS, function};
 use oracle::random::Random;
 use std::{fs, path::Path};
+
+/// Where they lie, seen from here: the data of the programs that replay them.
+const SAMPLES: [&str; 2] = ["../crates/replay_arith/data", "sample"];
 
 /// The words of a little-endian file.
 fn words(place: &Path) -> Vec<u32> {
@@ -12,10 +15,15 @@ fn words(place: &Path) -> Vec<u32> {
 }
 
 #[test]
-fn sample_is_the_oracles() {
-    let sample = Path::new(env!("CARGO_MANIFEST_DIR")).join("sample");
+fn samples_are_the_oracles() {
+    let functions: usize = SAMPLES.iter().map(|sample| check(sample)).sum();
+    assert_eq!(functions, FUNCTIONS.len());
+}
+
+/// Checks a folder, and answers how many functions it has.
+fn check(sample: &str) -> usize {
+    let sample = Path::new(env!("CARGO_MANIFEST_DIR")).join(sample);
     let index = fs::read_to_string(sample.join("index.txt")).expect("the index");
-    assert_eq!(index.lines().count(), FUNCTIONS.len());
     for line in index.lines() {
         let [name, inputs, outputs, records] = line.split(' ').collect::<Vec<_>>()[..] else {
             panic!("{line}");
@@ -40,6 +48,7 @@ fn sample_is_the_oracles() {
             }
         }
     }
+    index.lines().count()
 }
 
 #[test]

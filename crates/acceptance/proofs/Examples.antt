@@ -1,6 +1,6 @@
 -- The worked examples hold of the rules, by computation. Assumes nothing.
 use mathlib.Core.Path.{_≡_, refl}
-use mathlib.Core.List.{List, map}
+use mathlib.Core.List.{map}
 use lib.Ieee.{lt, isNan, ofBits}
 use Rattle.bytes.specs.Bytes.{le16, le32, isFinite}
 use Rattle.records.specs.Answers.{firstOf, from}

@@ -1,29 +1,27 @@
 -- WHEN EACH NUMBER IS GIVEN: in its case, and in no other. Assumes nothing.
-use Prim.Native.Nat.{ℕ, zero, suc, _+_, _≤_, _<_}
+use Prim.Native.Nat.{ℕ, suc, _+_, _≤_, _<_}
 use mathlib.Core.Path.{_≡_, refl, sym, ap, _∙_, subst}
 use mathlib.Core.Bool.{Bool, true, false, cond, not}
 use mathlib.Core.Logic.{_⊎_, inl, inr, _↔_}
 use mathlib.Core.List.{List, []}
 use native.Mathlib.Omega.{arith}
-use native.Mathlib.Nat.{add-zero}
 use lib.ListN.{length}
 use lib.Dec.{ltb}
-use borrow.Author.Tests.{lt-ltb, le-ltb, ltb-true, ltb-false, not-true, not-false}
+use borrow.Author.Tests.{lt-ltb, le-ltb, ltb-true, ltb-false}
 use Rattle.bytes.specs.Bytes.{le16, le32}
 use Rattle.records.specs.declared.Due.{Due}
-use Rattle.records.specs.Answers.{_then_, refused, accepted, firstOf, from, firstFrom, Passed}
+use Rattle.records.specs.Answers.{refused, accepted, firstOf}
 use Rattle.records.specs.Fields.{fields}
 use Rattle.records.specs.Records.{isDue, recordLength, recordAt, shape, recordTests}
 use Rattle.records.proofs.ByKind.{due-kind}
 use Rattle.records.proofs.Shapes.{Shaped, shaped, shape-passes, longer}
-use Rattle.clash.specs.Clash.{clashTests}
 use Rattle.frame.specs.Frames.{countN, countR, rowsAt, rowsEnd}
 use Rattle.frame.specs.Check.{extra, checkOf}
 use Rattle.acceptance.specs.Whole.{Whole}
-use Rattle.acceptance.specs.Given.{FirstFailure, Given1, Given2, GivenField, Given8, Given9}
+use Rattle.acceptance.specs.Given.{Given1, Given2, GivenField, Given8, Given9}
 use Rattle.acceptance.proofs.Numbers.{number-is, place-is, refused-not, answer-split, answer-left, answer-right, first-failure, answer-from, from-answer, within-answer, shape-in, fields-in, extra-in, clash-in}
 use Rattle.acceptance.proofs.Wholes.{accepted-whole, whole-accepted, no-extra, extra-passes}
-use Rattle.acceptance.proofs.Reaching.{Refused, to-record, of-record, to-last, of-last}
+use Rattle.acceptance.proofs.Reaching.{to-record, of-record, to-last, of-last}
 use Rattle.acceptance.proofs.Meets.{to-meet, of-meet}
 
 -- ---- one record

@@ -1,15 +1,14 @@
 -- Which row is refused with 9: the first that clashes with an earlier one. Assumes nothing.
-use Prim.Native.Nat.{ℕ, zero, suc, _+_, _≤_, _<_, suc-le-suc}
+use Prim.Native.Nat.{ℕ, zero, suc, _+_, _<_, suc-le-suc}
 use mathlib.Core.Path.{_≡_, refl, sym, ap, _∙_, subst}
-use mathlib.Core.Bool.{Bool, true, false, not, cond, _&&_, _||_}
+use mathlib.Core.Bool.{Bool, true, false, not, cond, _||_}
 use mathlib.Core.Logic.{_⊎_, inl, inr}
 use mathlib.Core.List.{List, [], _∷_, List·Memᴰ, List·Memᴰ·head, List·Memᴰ·tail, List·Memᴰ·cases-cons, List·Memᴰ·not-nil}
 use native.Mathlib.Omega.{arith}
 use native.Mathlib.Nat.{not-suc-le-zero, le-of-suc-le-suc}
-use native.Mathlib.Decide.{ℕ-discrete}
 use lib.Dec.{ltb, eqb}
-use borrow.Author.Tests.{eq-eqb, ne-eqb, ltb-true, eqb-true}
-use Rattle.records.specs.Answers.{refused, firstOf, Passed}
+use borrow.Author.Tests.{eq-eqb, ltb-true, eqb-true}
+use Rattle.records.specs.Answers.{refused, firstOf}
 use Rattle.records.specs.Records.{recordLength, recordAt, endOf}
 use Rattle.records.proofs.ByKind.{and-both}
 use Rattle.clash.specs.Clash.{Key, keyOf, anyOf, namedBy, clashes, clashTests}

@@ -1,5 +1,5 @@
 -- Which numbers a list of tests can give, and by which of two lists one is given. Assumes nothing.
-use Prim.Native.Nat.{ℕ, zero, suc, _+_, _≤_, _<_}
+use Prim.Native.Nat.{ℕ, zero, suc, _+_, _≤_}
 use mathlib.Core.Path.{_≡_, refl, sym, ap, _∙_, subst}
 use mathlib.Core.Bool.{Bool, true, false, cond}
 use mathlib.Core.Logic.{_⊎_, inl, inr, _↔_}
@@ -7,13 +7,13 @@ use mathlib.Core.List.{List, [], _∷_, _++_}
 use native.Mathlib.Omega.{arith}
 use lib.Dec.{eqb}
 use Rattle.bytes.specs.Bytes.{le16}
-use borrow.Author.Tests.{eqb-true, eqb-false}
+use borrow.Author.Tests.{eqb-true}
 use Rattle.records.specs.declared.Answer.{Answer}
 use Rattle.records.specs.declared.Due.{Due}
-use Rattle.records.specs.Answers.{Test, Refusal, numberOf, refused, accepted, refuse, _then_, firstOf, from, firstFrom, Passed, _orElse_}
+use Rattle.records.specs.Answers.{Test, numberOf, refused, firstOf, from, firstFrom, Passed, _orElse_}
 use Rattle.records.specs.Fields.{limit16, limit32, code, finite, bound, ordered, cap, colourFrom, run, headFields, pointFields, scalarCodes, scalarFloats, scalarFields, elasticCodes, corotationalFields, neoHookeanFields, fields}
 use Rattle.records.specs.Records.{shape, recordTests, recordsTests, recordAt, recordLength}
-use Rattle.records.proofs.Firsts.{Zero, first-append, first-passed, passed-first, stop-at, go-on, never-0}
+use Rattle.records.proofs.Firsts.{Zero, first-append, first-passed, passed-first, stop-at, go-on}
 use Rattle.clash.specs.Clash.{clashTests, Key, keyOf}
 use Rattle.frame.specs.Check.{extra}
 use Rattle.acceptance.specs.Given.{FirstFailure}

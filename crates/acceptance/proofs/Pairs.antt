@@ -10,10 +10,8 @@ use native.Mathlib.Decide.{ℕ-discrete}
 use lib.Dec.{ltb, eqb}
 use lib.ListN.{length}
 use borrow.Author.Tests.{eq-eqb, ne-eqb, lt-ltb, ltb-true, eqb-true, eqb-false}
-use Rattle.bytes.specs.Bytes.{le16, le32}
+use Rattle.bytes.specs.Bytes.{le16}
 use Rattle.records.specs.declared.Due.the-variants.{Row}
-use Rattle.records.specs.Answers.{Passed}
-use Rattle.records.specs.Fields.{fields}
 use Rattle.records.proofs.Values.{row-last}
 use Rattle.clash.specs.Clash.{Key, keyOf, anyOf, namedBy, clashes}
 use Rattle.acceptance.specs.Whole.{Good, Chain, Free}

@@ -1,12 +1,11 @@
 -- Records that pass their tests are good records, one after another; and such records pass. One induction each way serves points and rows.
 -- Assumes nothing.
-use Prim.Native.Nat.{ℕ, zero, suc, _+_, _*_, _≤_, _<_}
+use Prim.Native.Nat.{ℕ, zero, suc, _+_, _≤_}
 use mathlib.Core.Path.{_≡_, refl, sym, ap, _∙_, subst}
-use mathlib.Core.Bool.{true}
-use mathlib.Core.List.{List, [], _∷_, _++_, append-assoc, append-nil}
+use mathlib.Core.List.{List, [], _∷_, _++_, append-assoc}
 use native.Mathlib.Omega.{arith}
 use native.Mathlib.Nat.{add-zero}
-use lib.ListN.{length, take, drop, length-append, take-append-drop}
+use lib.ListN.{length, drop, length-append, take-append-drop}
 use lib.Seq.{drop-drop}
 use Rattle.bytes.specs.Bytes.{le16, le32, part}
 use Rattle.bytes.proofs.Parts.{le16-part, le32-part, part-middle, le16-middle, le32-middle}

@@ -1,23 +1,21 @@
 -- The first part of demand 3: a relisting of an accepted frame is accepted, at 0. Assumes nothing.
-use Prim.Native.Nat.{ℕ, zero, suc, _+_, _*_, _≤_, _<_}
-use mathlib.Core.Path.{_≡_, refl, sym, ap, _∙_, subst, subst₂}
-use mathlib.Core.Logic.{_≢_}
+use Prim.Native.Nat.{ℕ, _+_, _≤_, _<_}
+use mathlib.Core.Path.{_≡_, sym, ap, _∙_, subst, subst₂}
 use mathlib.Core.List.{List, [], _++_, append-assoc, append-nil, List·Memᴰ·not-nil}
 use native.Mathlib.Omega.{arith}
 use native.Mathlib.Decide.{decLt}
 use lib.ListN.{length, take, length-append}
 use lib.Seq.{take-at}
-use Rattle.bytes.specs.Bytes.{le16, le32}
+use Rattle.bytes.specs.Bytes.{le32}
 use Rattle.bytes.proofs.Parts.{le32-part}
 use Rattle.records.specs.declared.Due.the-variants.{Head, Point, Row}
 use Rattle.records.specs.Answers.{accepted}
 use Rattle.records.specs.Records.{records, endOf, flatten}
 use Rattle.clash.specs.Clash.{Key, keyOf}
-use Rattle.clash.proofs.Places.{colour-key}
 use Rattle.frame.specs.Frames.{countN, countR, rowsAt, head, points, rows}
 use Rattle.frame.specs.Check.{checkOf}
 use Rattle.acceptance.specs.Whole.{Good, Chain, Free, Whole}
-use Rattle.acceptance.specs.Relisted.{row, colourOf, Pairing, Relisting}
+use Rattle.acceptance.specs.Relisted.{row, Relisting}
 use Rattle.acceptance.proofs.Parsing.{build, as-many}
 use Rattle.acceptance.proofs.Wholes.{accepted-whole, whole-accepted, head-length}
 use Rattle.acceptance.proofs.Pairs.{Apart, keyAt, free-apart, apart-free, good-at, rising-at, chain-of}

@@ -1,25 +1,22 @@
 -- A frame is accepted exactly where it is whole; and then its numbers are in range. Assumes nothing.
-use Prim.Native.Nat.{ℕ, zero, suc, _+_, _*_, _≤_, _<_}
+use Prim.Native.Nat.{ℕ, zero, suc, _+_, _*_, _≤_}
 use mathlib.Core.Path.{_≡_, refl, sym, ap, _∙_, subst}
-use mathlib.Core.Bool.{true, false}
 use mathlib.Core.List.{List, [], _∷_, _++_, append-assoc, append-nil}
 use native.Mathlib.Omega.{arith}
 use lib.ListN.{length, take, drop, length-append, take-append-drop, drop-of-length-le}
-use lib.Dec.{ltb}
 use borrow.Author.Tests.{le-ltb, ltb-false}
 use Rattle.bytes.specs.Bytes.{le16, le32}
 use Rattle.bytes.proofs.Parts.{le16-part}
 use Rattle.records.specs.declared.Answer.{Answer}
-use Rattle.records.specs.declared.Due.{Due}
 use Rattle.records.specs.declared.Due.the-variants.{Head, Point, Row}
 use Rattle.records.specs.Answers.{accepted, Passed}
 use Rattle.records.specs.Records.{recordLength, recordAt, recordTests, recordsTests, records, endOf, flatten}
 use Rattle.records.proofs.Firsts.{passed-split, passed-join, passed-first, first-passed}
 use Rattle.records.proofs.ByKind.{Kind, a-head, a-point, a-scalar, a-corotational, a-neo-hookean}
 use Rattle.records.proofs.Shapes.{record-passed, kind-record}
-use Rattle.records.proofs.Values.{HeadValues, head-values}
-use Rattle.clash.specs.Clash.{Key, keyOf, clashes, clashTests}
-use Rattle.frame.specs.Frames.{countN, countR, modeOf, resweepsOf, rowsAt, rowsEnd, head, points, rows}
+use Rattle.records.proofs.Values.{head-values}
+use Rattle.clash.specs.Clash.{Key, keyOf, clashTests}
+use Rattle.frame.specs.Frames.{countN, countR, rowsAt, rowsEnd, head, points, rows}
 use Rattle.frame.specs.Check.{extra, frameTests, checkOf}
 use Rattle.frame.proofs.Answered.{head-shaped, head-kind, head-long, few-points, few-rows}
 use Rattle.acceptance.specs.Whole.{Good, Chain, Free, Whole, InRange}

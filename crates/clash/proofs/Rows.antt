@@ -1,12 +1,12 @@
 -- What the code returns for one row. Assumes nothing.
 use Prim.Native.Nat.{ℕ, _+_}
-use mathlib.Core.Path.{_≡_, refl, sym, ap, _∙_}
+use mathlib.Core.Path.{_≡_, refl}
 use mathlib.Core.Bool.{Bool, true, false, _||_}
-use mathlib.Core.List.{List, [], _∷_}
+use mathlib.Core.List.{List}
 use borrow.Author.Tests.{eq-eqb, ne-eqb}
 use Rattle.clash.specs.declared.Names.{Names}
 use Rattle.clash.specs.Clash.{anyOf}
-use Rattle.clash.specs.Marks.{four, markedAt, clashing, markWith, markAll, markRow}
+use Rattle.clash.specs.Marks.{markedAt, clashing, markWith, markAll, markRow}
 
 or-no : (t : Bool) → (t || false) ≡ t
 or-no true = refl

@@ -1,6 +1,6 @@
 -- The loop of the clash test, one row a turn. Assumes nothing.
-use Prim.Native.Nat.{ℕ, zero, suc, _+_, _-_, _≤_, _<_}
-use mathlib.Core.Path.{_≡_, refl, sym, ap, _∙_, subst}
+use Prim.Native.Nat.{ℕ, _+_, _-_, _≤_, _<_}
+use mathlib.Core.Path.{_≡_, sym, ap, _∙_, subst}
 use mathlib.Core.Bool.{Bool, true, false}
 use mathlib.Core.List.{List, [], _∷_}
 use native.Mathlib.Omega.{arith}
@@ -16,7 +16,7 @@ use Rattle.records.specs.Records.{recordLength, recordAt, recordTests, recordsT
 use Rattle.records.proofs.Rest.{Rest, rest-begin, rest-again, rest-stops, rest-ends, sub-turn}
 use Rattle.records.proofs.Firsts.{passed-split}
 use Rattle.records.proofs.ByKind.{Kind, a-scalar, a-corotational, a-neo-hookean}
-use Rattle.records.proofs.Shapes.{Shaped, record-passed, kind-of, kind-record, length-record}
+use Rattle.records.proofs.Shapes.{Shaped, record-passed, kind-of, kind-record}
 use Rattle.records.proofs.Values.{row-last}
 use Rattle.clash.specs.declared.Names.{Names}
 use Rattle.clash.specs.Clash.{Key, keyOf, clashes, clashTests}

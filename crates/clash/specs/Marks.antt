@@ -1,6 +1,6 @@
 -- What the inner functions of the clash test cite: the names of a row with four places, and a mark for each point, one more than the colour of the
 -- row that named it last. Assumes nothing.
-use Prim.Native.Nat.{ℕ, suc, _+_}
+use Prim.Native.Nat.{ℕ, _+_}
 use mathlib.Core.Bool.{Bool, cond, not, _&&_}
 use mathlib.Core.List.{List, [], _∷_}
 use lib.ListN.{getD, set}

@@ -1,7 +1,6 @@
 -- What the code of check returns, one law for each return. Assumes nothing.
-use Prim.Native.Nat.{ℕ, _+_, _≤_, _<_}
-use mathlib.Core.Path.{_≡_, refl, sym, ap, _∙_, subst}
-use mathlib.Core.Bool.{true, false, cond}
+use Prim.Native.Nat.{ℕ, _+_, _≤_}
+use mathlib.Core.Path.{_≡_, sym, ap, _∙_}
 use mathlib.Core.List.{List, []}
 use native.Mathlib.Omega.{arith}
 use lib.ListN.{length}
@@ -11,7 +10,6 @@ use Rattle.bytes.proofs.Parts.{le32-part}
 use Rattle.records.specs.declared.Due.the-variants.{Head, Point, Row}
 use Rattle.records.specs.declared.Answer.{Answer}
 use Rattle.records.specs.Answers.{firstOf, Passed, refuseIf, _orElse_}
-use Rattle.records.specs.Fields.{fields}
 use Rattle.records.specs.Records.{recordLength, recordAt, recordTests, recordsTests, endOf}
 use Rattle.records.proofs.Firsts.{Zero, stop-at, go-on, first-append, passed-of}
 use Rattle.records.proofs.ByKind.{Kind, a-head}

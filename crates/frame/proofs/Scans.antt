@@ -1,19 +1,18 @@
 -- The loop over records: it stops at the first refusal, and else comes to the end of the last record. Assumes nothing.
-use Prim.Native.Nat.{ℕ, zero, suc, _+_, _-_, _≤_, _<_}
-use mathlib.Core.Path.{_≡_, refl, sym, ap, _∙_}
+use Prim.Native.Nat.{ℕ, _+_, _-_, _≤_, _<_}
+use mathlib.Core.Path.{_≡_, sym, ap, _∙_}
 use mathlib.Core.Bool.{false}
 use mathlib.Core.List.{List}
 use native.Mathlib.Omega.{arith}
 use lib.ListN.{length}
-use Rattle.bytes.specs.Bytes.{le16, le32}
+use Rattle.bytes.specs.Bytes.{le16}
 use Rattle.records.specs.declared.Due.{Due}
 use Rattle.records.specs.declared.Answer.{Answer}
-use Rattle.records.specs.Answers.{firstOf, Passed, refuseIf}
+use Rattle.records.specs.Answers.{firstOf, refuseIf}
 use Rattle.records.specs.Records.{recordLength, recordTests, recordsTests, endOf}
 use Rattle.records.proofs.Rest.{Rest, rest-begin, rest-again, rest-stops, rest-ends}
 use Rattle.records.proofs.Firsts.{Zero, stop-at, go-on, first-append, passed-of}
 use Rattle.records.proofs.Shapes.{Shaped, record-passed, kind-of, longer}
-use Rattle.frame.specs.declared.Scan.{Scan}
 use Rattle.frame.specs.Scanned.{Scanned}
 
 pub record At : Type 0 where

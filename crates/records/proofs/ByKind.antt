@@ -1,6 +1,6 @@
 -- Which tests a record's kind gives it, and how long a record that is due is. Assumes nothing.
-use Prim.Native.Nat.{ℕ, _+_, _≤_, _<_}
-use mathlib.Core.Path.{_≡_, refl, sym, ap, _∙_, subst}
+use Prim.Native.Nat.{ℕ, _+_, _<_}
+use mathlib.Core.Path.{_≡_, refl}
 use mathlib.Core.Bool.{Bool, true, false, _&&_, _||_}
 use mathlib.Core.Logic.{_⊎_, inl, inr}
 use mathlib.Core.List.{List}
@@ -8,10 +8,9 @@ use native.Mathlib.Omega.{arith}
 use lib.ListN.{length}
 use lib.Dec.{eqb}
 use borrow.Author.Tests.{eq-eqb, ne-eqb, eqb-true}
-use Rattle.bytes.specs.Bytes.{le16, le32}
+use Rattle.bytes.specs.Bytes.{le16}
 use Rattle.records.specs.declared.Due.{Due}
 use Rattle.records.specs.declared.Due.the-variants.{Head, Point, Row}
-use Rattle.records.specs.Answers.{Test}
 use Rattle.records.specs.Fields.{headFields, pointFields, scalarFields, corotationalFields, neoHookeanFields, fields}
 use Rattle.records.specs.Records.{isPair, isDue}
 use Rattle.records.specs.Sized.{Sized}

@@ -4,8 +4,7 @@ use mathlib.Core.Path.{_≡_, refl, sym, ap, _∙_}
 use mathlib.Core.Bool.{Bool, true, false, cond}
 use mathlib.Core.List.{List, [], _∷_, _++_}
 use native.Mathlib.Omega.{arith}
-use lib.Dec.{eqb}
-use borrow.Author.Tests.{eq-eqb, ne-eqb, eqb-true, eqb-false}
+use borrow.Author.Tests.{eq-eqb, ne-eqb}
 use Rattle.records.specs.declared.Answer.{Answer}
 use Rattle.records.specs.Answers.{Refusal, numberOf, Test, notWhole, notDue, tooMany, badCode, notFinite, disordered, colourFalls, extraBytes, clash, refused, accepted, firstOf, from, firstFrom, Passed, _orElse_}
 

@@ -1,7 +1,7 @@
 -- A record's shape (six bytes there, kind and length due, whole), and a record's tests in its frame. Assumes nothing.
 use Prim.Native.Nat.{ℕ, _+_, _-_, _≤_, _<_}
-use mathlib.Core.Path.{_≡_, refl, sym, ap, _∙_, subst}
-use mathlib.Core.Bool.{Bool, true, false, cond, not}
+use mathlib.Core.Path.{_≡_, sym, ap, _∙_, subst}
+use mathlib.Core.Bool.{Bool, true, false}
 use mathlib.Core.List.{List}
 use native.Mathlib.Omega.{arith}
 use native.Mathlib.Decide.{decLt}
@@ -16,7 +16,7 @@ use Rattle.records.specs.Answers.{firstOf, from, firstFrom, Passed, refu
 use Rattle.records.specs.Fields.{fields}
 use Rattle.records.specs.Records.{isDue, recordLength, recordAt, shape, recordTests}
 use Rattle.records.specs.Sized.{Sized}
-use Rattle.records.proofs.Firsts.{Zero, stop-at, go-on, first-append, first-passed, passed-of, passed-join, passed-split, passed-from, passed-back}
+use Rattle.records.proofs.Firsts.{Zero, stop-at, go-on, first-append, passed-of, passed-join, passed-split, passed-from, passed-back}
 use Rattle.records.proofs.ByKind.{Kind, a-head, a-point, a-scalar, a-corotational, a-neo-hookean, due-kind, sized}
 
 pub record Shaped (w : Due) (s : List ℕ) (off : ℕ) : Type 0 where

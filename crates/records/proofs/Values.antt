@@ -1,13 +1,13 @@
 -- What the fields of a record that passes its tests hold. Assumes nothing.
-use Prim.Native.Nat.{ℕ, _+_, _≤_, _<_}
-use mathlib.Core.Path.{_≡_, refl, sym, ap, _∙_, subst}
+use Prim.Native.Nat.{ℕ, _≤_}
+use mathlib.Core.Path.{_≡_, sym, subst}
 use mathlib.Core.List.{List}
 use native.Mathlib.Omega.{arith}
 use borrow.Author.Tests.{le-ltb, ltb-false}
 use Rattle.bytes.specs.Bytes.{le16, le32}
 use Rattle.records.specs.declared.Due.the-variants.{Row}
-use Rattle.records.specs.Answers.{Test, Passed, _then_}
-use Rattle.records.specs.Fields.{limit16, limit32, code, colourFrom, run, finite, bound, ordered, cap, scalarCodes, scalarFloats, elasticCodes, headFields, scalarFields, corotationalFields, neoHookeanFields, fields}
+use Rattle.records.specs.Answers.{Passed, _then_}
+use Rattle.records.specs.Fields.{limit16, limit32, code, colourFrom, run, finite, ordered, cap, scalarCodes, scalarFloats, elasticCodes, headFields, scalarFields, corotationalFields, neoHookeanFields, fields}
 use Rattle.records.proofs.Firsts.{passed-split, passed-join}
 use Rattle.records.proofs.ByKind.{Kind, a-scalar, a-corotational, a-neo-hookean, fields-1, fields-3, fields-4, fields-else}
 

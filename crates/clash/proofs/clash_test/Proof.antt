@@ -1,6 +1,5 @@
 -- `clash::clash_test` meets its contract. The marks say which points the rows so far name, and in which colour. Assumes nothing.
 use Prim.Native.Nat.{_-_}
-use mathlib.Core.Path.{ap}
 use native.Mathlib.Omega.{arith}
 use borrow.Author.Needs.{needs}
 use Rattle.clash.proofs.Turns.{Clashing, begins, whole, long, refuses, again, ends}

@@ -1,5 +1,4 @@
 -- `records::record_at` meets its contract. Assumes nothing.
-use mathlib.Core.Path.{_≡_, _∙_, ap}
 use native.Mathlib.Omega.{arith}
 use native.Mathlib.Nat.{add-sub-cancel-left}
 use lib.ListN.{length-take, length-drop}
