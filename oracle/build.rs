@@ -184,19 +184,21 @@ fn main() {
     }
 }
 
-/// The static library of the Rattle crates, from `RATTLE_LIB`.
+/// The static libraries of the Rattle crates that are exported, from `RATTLE_LIB`.
 fn link(package: &Path) {
     println!("cargo::rerun-if-env-changed=RATTLE_LIB");
     let place = package.join(env::var("RATTLE_LIB").unwrap_or("../target/staticlib".into()));
-    let library = place.join("libarith_ffi.a");
-    assert!(
-        library.exists(),
-        "{}: not there; `rt staticlib arith_ffi` makes it",
-        library.display()
-    );
-    println!("cargo::rerun-if-changed={}", library.display());
     println!("cargo::rustc-link-search=native={}", place.display());
-    println!("cargo::rustc-link-lib=static=arith_ffi");
+    for name in ["arith_ffi", "frame"] {
+        let library = place.join(format!("lib{name}.a"));
+        assert!(
+            library.exists(),
+            "{}: not there; `rt staticlib {name}` makes it",
+            library.display()
+        );
+        println!("cargo::rerun-if-changed={}", library.display());
+        println!("cargo::rustc-link-lib=static={name}");
+    }
 }
 
 /// The text of one file with its items left out and its edits made; what was done is added to `taken`.
