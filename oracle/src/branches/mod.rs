@@ -61,7 +61,7 @@ pub const RARE: &[(&str, &str)] = &[
     ),
     (
         "distance, length is NaN",
-        ": needs a NaN in a `pos` that no point refreshes, one input in 30,000; met in scalar_compute_gradients",
+        ": needs a NaN in a `pos` that no point refreshes, one input in 40,000; met in scalar_compute_gradients",
     ),
 ];
 
