@@ -9,6 +9,7 @@ use vector::Mat3;
 use vector::Quat;
 
 // What no step alters. `strain_cap` bounds each strain while the cell is inverted.
+#[repr(C)]
 pub struct Cell {
     pub im: Masses,
     pub coeffs: Four,
@@ -17,6 +18,7 @@ pub struct Cell {
 }
 
 // What an update assigns in both models. `rot_mat` is `rotation` as a matrix.
+#[repr(C)]
 pub struct Pose {
     pub pos: Four,
     pub rotation: Quat,
@@ -26,12 +28,14 @@ pub struct Pose {
 }
 
 // What a warm start and a solve assign.
+#[repr(C)]
 pub struct Impulses {
     pub strain: [f32; 6],
     pub vol: f32,
 }
 
 // The row's impulses anew, and what each place is to lose.
+#[repr(C)]
 pub struct Solved {
     pub impulses: Impulses,
     pub loss: Four,

@@ -12,6 +12,7 @@ use places::Holds;
 use vector::Four;
 
 // Corotational: what no step alters.
+#[repr(C)]
 pub struct Springs {
     pub erp_strain: [f32; 6],
     pub cfm_strain: [f32; 6],
@@ -22,6 +23,7 @@ pub struct Springs {
 }
 
 // Corotational: the volumetric row and its coupling with the strain rows, which an update assigns.
+#[repr(C)]
 pub struct Volume {
     pub grad_vol: Four,
     pub cfm_gain_vol: f32,
@@ -31,6 +33,7 @@ pub struct Volume {
     pub inv_s: f32,
 }
 
+#[repr(C)]
 pub struct CorotationalRow {
     pub cell: Cell,
     pub pose: Pose,

@@ -36,6 +36,7 @@ off a = f0 ⊕ entry a 0 1 ⊗ entry a 0 1 ⊕ entry a 0 2 ⊗ entry a 0 2 ⊕ e
 abbrev pub diag : Rows → Float
 diag a = f0 ⊕ entry a 0 0 ⊗ entry a 0 0 ⊕ entry a 1 1 ⊗ entry a 1 1 ⊕ entry a 2 2 ⊗ entry a 2 2
 
+-- a tie is settled: with squares that underflow, 0 <= 0
 abbrev pub settled : Rows → Bool
 settled a = le (off a) (tolerance ⊗ diag a)
 
@@ -57,7 +58,7 @@ abbrev pub columnStep : ℕ → ℕ → Float → Float → ℕ → Rows → Row
 columnStep p q c s k a =
     store (store a k p (c ⊗ entry a k p ⊖ s ⊗ entry a k q)) k q (s ⊗ entry a k p ⊕ c ⊗ entry a k q)
 
--- the columns p and q of every row
+-- the columns p and q, row after row
 unfoldable pub rotateColumns : ℕ → ℕ → Float → Float → Rows → Rows
 rotateColumns p q c s a = upTo 3 (columnStep p q c s) a
 
@@ -66,7 +67,7 @@ abbrev pub rowStep : ℕ → ℕ → Float → Float → ℕ → Rows → Rows
 rowStep p q c s k a =
     store (store a p k (c ⊗ entry a p k ⊖ s ⊗ entry a q k)) q k (s ⊗ entry a p k ⊕ c ⊗ entry a q k)
 
--- the rows p and q in every column
+-- the rows p and q, column after column
 unfoldable pub rotateRows : ℕ → ℕ → Float → Float → Rows → Rows
 rotateRows p q c s a = upTo 3 (rowStep p q c s) a
 
@@ -88,10 +89,11 @@ turn p q e =
     let t = tangent apq (entry (e .a) q q ⊖ entry (e .a) p p) in
     cond (eq apq f0) e (rotate p q (cosine t) (sine t) e)
 
+-- every pair with p below q, in this order
 unfoldable pub sweep : State → State
 sweep e = turn 1 2 (turn 0 2 (turn 0 1 e))
 
--- at most eight
+-- at most eight, and none from a settled matrix on
 unfoldable pub sweeps : State → State
 sweeps e = whileUpTo 8 (λ x. settled (x .a)) sweep e
 

@@ -4,13 +4,14 @@ ghost use Prim.Native.Nat.{_<_};
 ghost use Rattle.linalg.specs.Eigen as spec;
 ghost use Rattle.linalg.specs.Steps as steps;
 
-// The rotation that is due at a pair: its cosine and sine. There is none where the entry is zero.
+// The rotation that is due at a pair p, q: its cosine and sine. There is none where the entry is zero.
 pub(crate) struct Rotation {
     pub(crate) none: bool,
     pub(crate) c: f32,
     pub(crate) s: f32,
 }
 
+// Sums of squares, off and on the diagonal.
 pub(crate) fn is_settled(a: [[f32; 3]; 3]) -> bool
     ensures { λ r. ⌜ r ≡ spec.settled a ⌝ }
 {
@@ -19,7 +20,7 @@ pub(crate) fn is_settled(a: [[f32; 3]; 3]) -> bool
     off <= 1.0e-8 * diag
 }
 
-// The smaller rotation that zeroes apq, with d the difference of the diagonal's entries.
+// The smaller rotation that zeroes apq, where d is aqq - app. No root is taken where there is nothing to zero.
 fn rotation_for(apq: f32, d: f32) -> Rotation
     ensures { λ r. ⌜ r ≡ steps.rotationFor apq d ⌝ }
 {
@@ -47,6 +48,7 @@ pub(crate) fn rotation_at(a: [[f32; 3]; 3], p: usize, q: usize) -> Rotation
     rotation_for(a[p][q], a[q][q] - a[p][p])
 }
 
+// Row k of A J.
 fn column_step(m: [[f32; 3]; 3], p: usize, q: usize, g: Rotation, k: usize) -> [[f32; 3]; 3]
     requires { ⌜ (p < 3) × (q < 3) × (k < 3) ⌝ }
     ensures { λ r. ⌜ r ≡ spec.columnStep p q (g .c) (g .s) k m ⌝ }
@@ -59,6 +61,7 @@ fn column_step(m: [[f32; 3]; 3], p: usize, q: usize, g: Rotation, k: usize) -> [
     a
 }
 
+// A J.
 fn rotate_columns(m: [[f32; 3]; 3], p: usize, q: usize, g: Rotation) -> [[f32; 3]; 3]
     requires { ⌜ (p < 3) × (q < 3) ⌝ }
     ensures { λ r. ⌜ r ≡ spec.rotateColumns p q (g .c) (g .s) m ⌝ }
@@ -71,6 +74,7 @@ fn rotate_columns(m: [[f32; 3]; 3], p: usize, q: usize, g: Rotation) -> [[f32; 3
     a
 }
 
+// Column k of Jᵀ A.
 fn row_step(m: [[f32; 3]; 3], p: usize, q: usize, g: Rotation, k: usize) -> [[f32; 3]; 3]
     requires { ⌜ (p < 3) × (q < 3) × (k < 3) ⌝ }
     ensures { λ r. ⌜ r ≡ spec.rowStep p q (g .c) (g .s) k m ⌝ }
@@ -83,6 +87,7 @@ fn row_step(m: [[f32; 3]; 3], p: usize, q: usize, g: Rotation, k: usize) -> [[f3
     a
 }
 
+// Jᵀ A.
 fn rotate_rows(m: [[f32; 3]; 3], p: usize, q: usize, g: Rotation) -> [[f32; 3]; 3]
     requires { ⌜ (p < 3) × (q < 3) ⌝ }
     ensures { λ r. ⌜ r ≡ spec.rotateRows p q (g .c) (g .s) m ⌝ }
@@ -95,7 +100,7 @@ fn rotate_rows(m: [[f32; 3]; 3], p: usize, q: usize, g: Rotation) -> [[f32; 3]; 
     a
 }
 
-// Three functions with one caller each: they are inlined, and p and q are constants in them.
+// Jᵀ A J. Three functions with one caller each are inlined, with p and q as constants: a single one for every pair takes twice the time.
 pub(crate) fn turn_01(a: [[f32; 3]; 3], g: Rotation) -> [[f32; 3]; 3]
     ensures { λ r. ⌜ r ≡ steps.turnMatrix 0 1 g a ⌝ }
 {
@@ -126,6 +131,7 @@ pub(crate) fn turn_12(a: [[f32; 3]; 3], g: Rotation) -> [[f32; 3]; 3]
     rotate_rows(b, 1, 2, g)
 }
 
+// V J.
 pub(crate) fn turn_vectors(v: [[f32; 3]; 3], p: usize, q: usize, g: Rotation) -> [[f32; 3]; 3]
     requires { ⌜ (p < 3) × (q < 3) ⌝ }
     ensures { λ r. ⌜ r ≡ steps.turnVectors p q g v ⌝ }

@@ -1,4 +1,4 @@
-// Linear algebra of the soft rows, after soft_element_linalg.rs.
+// Linear algebra of the soft rows, after soft_element_linalg.rs: the eigen-decomposition of a symmetric matrix, the outer product, the cofactor matrix.
 ghost use mathlib.Core.Path.{_≡_};
 ghost use Rattle.linalg.specs.Eigen as spec;
 ghost use Rattle.linalg.specs.Products as products;
@@ -7,7 +7,7 @@ use vector::Vec3;
 
 mod jacobi; // the steps of a sweep
 
-// The vectors are columns.
+// The eigenvalues, and the eigenvectors as columns.
 #[repr(C)]
 pub struct Eigen {
     pub values: Vec3,
@@ -44,7 +44,7 @@ fn eigen_of(a: [[f32; 3]; 3], v: [[f32; 3]; 3]) -> Eigen
     }
 }
 
-// Cyclic Jacobi.
+// Cyclic Jacobi on rows. In a sweep the matrix is turned first, and then its vectors by the same three rotations.
 pub fn symmetric_eigen(m: Mat3) -> Eigen
     ensures { λ r. ⌜ r ≡ spec.symmetricEigen m ⌝ }
 {

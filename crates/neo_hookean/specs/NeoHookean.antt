@@ -1,70 +1,77 @@
 -- The neo-Hookean model: the kept or renewed stiffness and block, and the solve. As soft_neo_hookean.rs and soft_elastic_constraint.rs have them. Definitions only. Assumes nothing.
-use mathlib.Core.Bool.{Bool, cond, _&&_}
+use mathlib.Core.Bool.{Bool, cond}
 use mathlib.Core.List.{List}
-use lib.Ieee.{Float, binary32, le, ofBits}
-use Rattle.real.specs.Float.{_⊕_, _⊖_, _⊗_, at}
-use Rattle.real.specs.Real.{abs}
+use lib.Ieee.{Float, binary32, ofBits}
+use Rattle.real.specs.Float.{_⊗_}
 use Rattle.vector.specs.declared.Mat3.{Mat3}
-use Rattle.strain.specs.Six.{add6, sub6, scale6}
+use Rattle.vector.specs.declared.Four.{Four}
+use Rattle.strain.specs.Six.{add6, sub6, scale6, allWithin6}
 use Rattle.strain.specs.Matrix.{matVec, matMul, fromDiagonal, identity6, add36, scale36}
-use Rattle.strain.specs.Inverse.{tryInverse}
+use Rattle.inverse.specs.Inverse.{tryInverse}
 use Rattle.places.specs.declared.Holds.{Holds}
+use Rattle.places.specs.declared.Masses.{Masses}
 use Rattle.cell.specs.Strain.{outerSum, weighted, strainBlockFromG}
 use Rattle.cell.specs.Cell.{strainRates, strainLosses}
+use Rattle.cell.specs.declared.Impulses.{Impulses}
+use Rattle.cell.specs.declared.Solved.{Solved}
 use Rattle.neo_hookean.specs.Hessian.{gradient, hessian}
-use Rattle.cell.specs.declared.Cell.{Cell}
 use Rattle.neo_hookean.specs.declared.Energy.{Energy}
 use Rattle.neo_hookean.specs.declared.Material.{Material}
 use Rattle.neo_hookean.specs.declared.Stiffness.{Stiffness}
-use Rattle.cell.specs.declared.Impulses.{Impulses}
-use Rattle.cell.specs.declared.Solved.{Solved}
 use Rattle.neo_hookean.specs.declared.Block.{Block}
 
 -- ---- update
 
--- STIFFNESS_UPDATE_STRAIN, 0.02
+-- STIFFNESS_UPDATE_STRAIN: the f32 nearest 0.02
 abbrev pub nearby : Float
 nearby = ofBits binary32 0x3ca3d70a
 
--- every strain lies within 0.02 of the one that the stiffness was computed at; a NaN does not
+-- every strain is within 0.02 of the one that the stiffness was computed at; a difference of exactly that is, and a NaN is not
 unfoldable pub isFresh : List Float → List Float → Bool
-isFresh strain at0 =
-    let d = sub6 strain at0 in
-    le (abs (at d 0)) nearby
-    && (le (abs (at d 1)) nearby && (le (abs (at d 2)) nearby && (le (abs (at d 3)) nearby && (le (abs (at d 4)) nearby && le (abs (at d 5)) nearby))))
+isFresh strain last = allWithin6 (sub6 strain last) nearby
 
 -- M = dt (dt K + D)
 unfoldable pub stiffnessMatrix : Material → Energy → List Float
 stiffnessMatrix p e = scale36 (add36 (scale36 (hessian (p .mu) (p .lambda) (e .s) (e .kappa)) (p .dt)) (fromDiagonal (p .damping))) (p .dt)
 
--- (M A + I)⁻¹
-unfoldable pub blockInverse : Cell → List Float → List Float
-blockInverse cell m = tryInverse (add36 (matMul m (strainBlockFromG (outerSum (weighted (cell .coeffs) (cell .im)) (cell .coeffs)))) identity6)
+-- the effective-mass block A, from G = Σ w_p c_p c_pᵀ
+unfoldable pub strainBlock : Four → Masses → List Float
+strainBlock coeffs im = strainBlockFromG (outerSum (weighted coeffs im) coeffs)
 
-unfoldable pub renewed : Cell → Material → Energy → List Float → Block
-renewed cell p e strain =
+-- the block that is inverted, M A + I
+unfoldable pub block : Four → Masses → List Float → List Float
+block coeffs im m = add36 (matMul m (strainBlock coeffs im)) identity6
+
+-- what a move past 0.02 assigns; a zero pivot makes the whole inverse zeros
+unfoldable pub renewed : Four → Masses → Material → Energy → List Float → List Float → Block
+renewed coeffs im p e strain dtGrad =
     let m = stiffnessMatrix p e in
-    record { stiffness = record { «stiffness_strain» = strain; m = m; «dt_grad» = scale6 (e .grad) (p .dt) }; «inv_a» = blockInverse cell m }
+    record { stiffness = record { «stiffness_strain» = strain; m = m; «dt_grad» = dtGrad }; «inv_a» = tryInverse (block coeffs im m) }
 
-unfoldable pub kept : Material → Stiffness → List Float → Energy → Block
-kept p k invA e =
-    record { stiffness = record { «stiffness_strain» = k .«stiffness_strain»; m = k .m; «dt_grad» = scale6 (e .grad) (p .dt) }; «inv_a» = invA }
+-- what any other update assigns: `dt_grad` alone
+abbrev pub kept : Stiffness → List Float → List Float → Block
+kept k invA dtGrad = record { stiffness = record { «stiffness_strain» = k .«stiffness_strain»; m = k .m; «dt_grad» = dtGrad }; «inv_a» = invA }
 
--- the gradient anew in every update, the stiffness and the block only after a move
-unfoldable pub updateBlock : Cell → Material → Stiffness → List Float → List Float → Block
-updateBlock cell p k invA strain =
+unfoldable pub updateBlock : Four → Masses → Material → Stiffness → List Float → List Float → Block
+updateBlock coeffs im p k invA strain =
     let e = gradient (p .mu) (p .lambda) strain in
-    cond (isFresh strain (k .«stiffness_strain»)) (kept p k invA e) (renewed cell p e strain)
+    let dtGrad = scale6 (e .grad) (p .dt) in
+    cond (isFresh strain (k .«stiffness_strain»)) (kept k invA dtGrad) (renewed coeffs im p e strain dtGrad)
 
--- ---- solve: (M A + I)⁻¹ (M rate + dt g - λ)
+-- ---- solve
 
-unfoldable pub solveNeoHookean : Cell → Mat3 → List Float → Impulses → Stiffness → Holds → Solved
-solveNeoHookean cell rot invA l k vel =
-    let d = matVec invA (sub6 (add6 (matVec (k .m) (strainRates rot (cell .coeffs) vel)) (k .«dt_grad»)) (l .strain)) in
-    record { impulses = record { strain = add6 (l .strain) d; vol = l .vol }; loss = strainLosses rot (cell .coeffs) (cell .im) d }
+-- Δλ = (M A + I)⁻¹ (M rate + dt g - λ)
+unfoldable pub strainStep : Mat3 → Four → List Float → List Float → List Float → List Float → Holds → List Float
+strainStep rot coeffs invA m dtGrad impulse vel = matVec invA (sub6 (add6 (matVec m (strainRates rot coeffs vel)) dtGrad) impulse)
 
--- the warm start scales the volumetric impulse too, though this model never uses it
-unfoldable pub warmstartNeoHookean : Cell → Mat3 → Impulses → Float → Solved
-warmstartNeoHookean cell rot l coeff =
+-- the volumetric impulse stays: this model never uses it
+unfoldable pub solveNeoHookean : Mat3 → Four → Masses → List Float → List Float → List Float → Impulses → Holds → Solved
+solveNeoHookean rot coeffs im invA m dtGrad l vel =
+    let d = strainStep rot coeffs invA m dtGrad (l .strain) vel in
+    record { impulses = record { strain = add6 (l .strain) d; vol = l .vol }; loss = strainLosses rot coeffs im d }
+
+-- the warm start scales the volumetric impulse all the same
+unfoldable pub warmstartNeoHookean : Mat3 → Four → Masses → Impulses → Float → Solved
+warmstartNeoHookean rot coeffs im l coeff =
     let strain = scale6 (l .strain) coeff in
-    record { impulses = record { strain = strain; vol = l .vol ⊗ coeff }; loss = strainLosses rot (cell .coeffs) (cell .im) strain }
+    record { impulses = record { strain = strain; vol = l .vol ⊗ coeff }; loss = strainLosses rot coeffs im strain }

@@ -5,13 +5,12 @@ use Rattle.cell.specs.Cell.{updatePose}
 use Rattle.cell.specs.declared.Impulses.{Impulses}
 use Rattle.cell.specs.declared.Solved.{Solved}
 use Rattle.neo_hookean.specs.NeoHookean.{updateBlock, solveNeoHookean, warmstartNeoHookean}
-use Rattle.neo_hookean.specs.declared.Block.{Block}
 use Rattle.neo_hookean.specs.declared.NeoHookeanRow.{NeoHookeanRow}
 
 unfoldable pub update : NeoHookeanRow → Holds → NeoHookeanRow
 update r held =
     let pose = updatePose (r .cell) (r .pose) held in
-    let k = updateBlock (r .cell) (r .material) (r .stiffness) (r .«inv_a») (pose .strain) in
+    let k = updateBlock (r .cell .coeffs) (r .cell .im) (r .material) (r .stiffness) (r .«inv_a») (pose .strain) in
     record { cell = r .cell; pose = pose; «inv_a» = k .«inv_a»; impulses = r .impulses; material = r .material; stiffness = k .stiffness }
 
 abbrev pub withImpulses : NeoHookeanRow → Impulses → NeoHookeanRow
@@ -19,7 +18,8 @@ withImpulses r l = record { cell = r .cell; pose = r .pose; «inv_a» = r .«inv
 
 -- the impulses anew, and what each place is to lose
 unfoldable pub solve : NeoHookeanRow → Holds → Solved
-solve r vel = solveNeoHookean (r .cell) (r .pose .«rot_mat») (r .«inv_a») (r .impulses) (r .stiffness) vel
+solve r vel =
+    solveNeoHookean (r .pose .«rot_mat») (r .cell .coeffs) (r .cell .im) (r .«inv_a») (r .stiffness .m) (r .stiffness .«dt_grad») (r .impulses) vel
 
 unfoldable pub warmstart : NeoHookeanRow → Float → Solved
-warmstart r coeff = warmstartNeoHookean (r .cell) (r .pose .«rot_mat») (r .impulses) coeff
+warmstart r coeff = warmstartNeoHookean (r .pose .«rot_mat») (r .cell .coeffs) (r .cell .im) (r .impulses) coeff

@@ -1,6 +1,6 @@
 -- What the definitions come to, case by case: NaN, the zeros, the infinities, and each branch. Assumes nothing.
 use Prim.Native.Nat.{ℕ, _+_, _*_, _<_}
-use mathlib.Core.Path.{_≡_, refl}
+use mathlib.Core.Path.{_≡_, refl, _∙_}
 use mathlib.Core.Logic.{_⊎_, inl, inr}
 use mathlib.Core.Bool.{Bool, true, false, cond}
 use native.Mathlib.Nat.{zero-mul}
@@ -156,6 +156,10 @@ pub acos-up : (d : Float) → le f0 d ≡ true → acos d ≡ acosUp d
 unfolding acos
 acos-up d h = rw h refl
 
+pub acos-else : (d : Float) → le f0 d ≡ false → acos d ≡ pi ⊖ acosUp (neg d)
+unfolding acos
+acos-else d h = rw h refl
+
 -- -0 counts as d ≥ 0
 pub acos-minus-zero : acos (neg f0) ≡ acosUp (neg f0)
 unfolding acos le neg ofBits
@@ -180,5 +184,4 @@ sides (fin true m e) h =
     record { left = rw (ne-eqb b a (λ q. omega arith)) refl; right = rw (lt-ltb b a (omega arith)) refl }
 
 pub acos-below : (d : Float) → lt d f0 ≡ true → acos d ≡ pi ⊖ acos (neg d)
-unfolding acos
-acos-below d h = rw (sides d h .left, sides d h .right) refl
+acos-below d h = acos-else d (sides d h .left) ∙ rw (acos-up (neg d) (sides d h .right)) refl

@@ -1,14 +1,14 @@
 -- How the code of `abs` and `signum` gets at the sign: 0 - x is exact, and the sign is the highest bit. Assumes nothing.
 use Prim.Native.Nat.{ℕ, zero, suc, _+_, _-_, _*_, _/_, _%_, _^_, _<_, _≤_}
 use mathlib.Core.Path.{_≡_, refl, sym, ap, _∙_}
-use mathlib.Core.Bool.{Bool, true, false, cond, _&&_, _||_}
+use mathlib.Core.Bool.{not, Bool, true, false, cond, _&&_}
 use native.Mathlib.Nat.{pow-succ', mul-one, mul-assoc, mul-right-comm, mul-pos, mul-lt-mul-of-pos-right, lt-of-mul-lt-mul-right, lt-of-not-le, not-le-of-lt, le-of-eq, lt-of-lt-of-le, lt-of-le-of-lt, zero-mul, zero-add, one-mul}
 use native.Mathlib.Omega.{arith}
-use borrow.Author.Tests.{le-leb, lt-leb, lt-ltb, le-ltb, ne-eqb}
+use borrow.Author.Tests.{le-leb, lt-leb, lt-ltb}
 use lib.Dec.{T, leb, ltb, eqb, leb→le, ltb→lt, eqb→eq}
 use lib.IntN.{ℤ, pos, negsuc}
 use lib.Pow.{pow-add, pow-pos, pow-lt}
-use lib.Ieee.{Float, nan, inf, fin, binary32, ofBits, toBits, isNan, neg, sub, round, le, fits, up, down}
+use lib.Ieee.{Float, nan, inf, fin, binary32, ofBits, toBits, isNan, neg, sub, round, lt, fits, up, down}
 use lib.Ieee.Bits.{ofBits-toBits, toBits-lt}
 use lib.Ieee.Exact.{HasValue, round-exact}
 use lib.Ieee.Fits.{and-l, and-r, round-fits, neg-fits, up-pos, down-pos}
@@ -49,7 +49,7 @@ placed m (negsuc k) h =
     let e : 149 - suc k + suc k ≡ 149 = omega arith in
     mul-assoc m 1 (2 ^ 149) ∙ ap (λ (n : ℕ). m * n) (one-mul (2 ^ 149) ∙ ap (λ (n : ℕ). 2 ^ n) (sym e) ∙ pow-add 2 (149 - suc k) (suc k)) ∙ sym (mul-assoc m (2 ^ (149 - suc k)) (2 ^ suc k))
 
--- the three bounds of an f32 that is not zero
+-- the four tests of `fits`, at a number that is not zero
 abbrev isOdd : ℕ → ℤ → Bool
 isOdd m e = eqb (suc m % 2) 1
 
@@ -99,40 +99,30 @@ zero-place s (pos zero) h = refl
 zero-place s (pos (suc k)) h = absurd (two-at-least k (sym (mul-one (2 ^ suc k)) ∙ eqb→eq (2 ^ suc k * 1) 1 h))
 zero-place s (negsuc k) h = absurd (two-at-least k (sym (one-mul (2 ^ suc k)) ∙ eqb→eq (1 * 2 ^ suc k) 1 h))
 
--- a number with the sign is at most 0, and 0 less it is its size, rounded
-low : (a b : ℕ) → b ≡ 0 → (ltb 0 (a + b) || (eqb a b && eqb a 0)) ≡ true
-low zero b h = rw h refl
-low (suc a) b h = rw (lt-ltb 0 (suc a + b) (omega arith)) refl
+size-pos : (m : ℕ) (e : ℤ) → 0 < suc m * up e
+size-pos m e = mul-pos (omega arith) (up-pos e)
 
-at-most : (m : ℕ) (e : ℤ) → le (fin true m e) f0 ≡ true
-unfolding le ofBits
-at-most m e = low (m * up e * 1) (0 * down e) (zero-mul (down e))
-
-minus : (m : ℕ) (e : ℤ) → f0 ⊖ fin true m e ≡ round binary32 false (m * up e) (down e)
-unfolding sub ofBits
-minus m e = rw (zero-mul (down e), one-mul (down e), mul-one (m * up e), zero-add (m * up e)) refl
-
--- a number above 0 is not
-above-zero : (m : ℕ) (e : ℤ) → le (fin false (suc m) e) f0 ≡ false
-unfolding le ofBits
-above-zero m e =
-    let a : ℕ = suc m * up e * 1 in
-    let b : ℕ = 0 * down e in
-    let z : b ≡ 0 = zero-mul (down e) in
-    let p : 0 < a = mul-pos (mul-pos {m = suc m} {n = up e} (omega arith) (up-pos e)) (omega arith) in
-    rw (le-ltb a b (omega arith), ne-eqb a b (λ q. omega arith)) refl
+-- 0 less a number that is not zero is the number of the other sign
+minus : (s : Bool) (m : ℕ) (e : ℤ) → T (fits binary32 (fin s (suc m) e)) → f0 ⊖ fin s (suc m) e ≡ fin (not s) (suc m) e
+unfolding sub neg ofBits
+minus true m e h =
+    rw (zero-mul (down e), one-mul (down e), mul-one (suc m * up e), zero-add (suc m * up e))
+    (rounded false m e (neg-fits binary32 (fin true (suc m) e) h))
+minus false m e h =
+    let all : suc m * up e - 0 ≡ suc m * up e = omega arith in
+    rw (zero-mul (down e), one-mul (down e), mul-one (suc m * up e), lt-ltb 0 (suc m * up e) (size-pos m e), all)
+    (rounded true m e (neg-fits binary32 (fin false (suc m) e) h))
 
 -- the code of `abs`
-pub by-subtraction : (x : Float) → T (fits binary32 x) → cond (le x f0) (f0 ⊖ x) x ≡ abs x
-unfolding abs sub le ofBits
+pub by-subtraction : (x : Float) → T (fits binary32 x) → cond (lt (f0 ⊖ x) x) x (f0 ⊖ x) ≡ abs x
+unfolding abs sub lt ofBits
 by-subtraction nan h = refl
 by-subtraction (inf true) h = refl
 by-subtraction (inf false) h = refl
 by-subtraction (fin true zero e) h = rw (zero-place true e h) refl
 by-subtraction (fin false zero e) h = rw (zero-place false e h) refl
-by-subtraction (fin true (suc m) e) h =
-    rw (at-most (suc m) e) (minus (suc m) e ∙ rounded false m e (neg-fits binary32 (fin true (suc m) e) h))
-by-subtraction (fin false (suc m) e) h = rw (above-zero m e) refl
+by-subtraction (fin true (suc m) e) h = rw (minus true m e h) refl
+by-subtraction (fin false (suc m) e) h = rw (minus false m e h, lt-ltb 0 (suc m * up e * down e + suc m * up e * down e) (omega (arith, mul-pos (size-pos m e) (down-pos e)))) refl
 
 -- ---- `signum`
 

@@ -19,11 +19,12 @@ pub fn is_nan(x: f32) -> bool
     x != x
 }
 
-// 0 - x is exact, and +0 for a zero of either sign. The compiler makes of this one instruction that clears the sign.
+// The greater of x and 0 - x, which is exact, and +0 for a zero of either sign. The compiler makes of it a subtraction and a maximum.
 pub fn abs(x: f32) -> f32
     ensures { λ r. ⌜ r ≡ spec.abs x ⌝ }
 {
-    pick(x <= 0.0, 0.0 - x, x)
+    let y = 0.0 - x;
+    pick(y < x, x, y)
 }
 
 pub fn signum(x: f32) -> f32

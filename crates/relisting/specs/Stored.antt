@@ -3,7 +3,11 @@ use mathlib.Core.Path.{_≡_, ap, _∙_}
 use Prim.Native.Nat.{ℕ}
 use Rattle.relisting.specs.Access.{Access, Agree, Local}
 
-module _ {R S P K X : Type 0} (F : Access R S P K) (read : X → R) (put : R → X → X) where
+-- read, step, put back
+abbrev pub storing : {R S X : Type 0} → (X → R) → (R → X → X) → (R → S → R × S) → X → S → X × S
+storing read put f x s = let y = f (read x) s in (put (y .0) x, y .1)
+
+module _ {R S P K X : Type 0} (F : Access R S P K) (read : X → R) where
   abbrev pub stored : Access X S P K
   stored = record {
     key = λ x. F .key (read x);
@@ -14,13 +18,10 @@ module _ {R S P K X : Type 0} (F : Access R S P K) (read : X → R) (put : R →
     written-read = λ x. F .written-read (read x);
   }
 
-  abbrev pub storing : (R → S → R × S) → X → S → X × S
-  storing f x s = let y = f (read x) s in (put (y .0) x, y .1)
-
   -- what is put back has the key that the row had
-  pub storing-local : ((r : R) (x : X) → F .key r ≡ F .key (read x) → F .key (read (put r x)) ≡ F .key (read x))
-      → (f : R → S → R × S) → Local F f → Local stored (storing f)
-  storing-local keeps f L = record {
+  pub storing-local : (put : R → X → X) → ((r : R) (x : X) → F .key r ≡ F .key (read x) → F .key (read (put r x)) ≡ F .key (read x))
+      → (f : R → S → R × S) → Local F f → Local stored (storing read put f)
+  storing-local put keeps f L = record {
     row = λ x s t a. ap (λ (r : R). put r x) (L .row (read x) s t a);
     put = λ x s t a p w. L .put (read x) s t a p w;
     keep = λ x s p n. L .keep (read x) s p n;

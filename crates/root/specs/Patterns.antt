@@ -9,7 +9,7 @@ use lib.Ieee.{Float, nan, inf, binary32, odd, ofFields, ofBits}
 use lib.Ieee.Exact.{HasValue, odd-sign}
 use Rattle.loops.specs.Loops.{cond-no}
 use borrow.Author.Tests.{ne-eqb, lt-leb}
-use Rattle.root.specs.Nearest.{val}
+use Rattle.root.specs.Root.{val}
 
 ofBits-is : (b : ℕ) → ofBits binary32 b ≡ ofFields binary32 (leb 2147483648 b) (b % 2147483648 / 8388608) (b % 8388608)
 unfolding ofBits

@@ -2,8 +2,10 @@
 ghost use Prim.Native.Nat.{_<_, _^_};
 
 // Three coefficients, of 30, 23 and 11 bits, for each lowest bit of the power and seven highest bits of the significand after its first.
-// A `match` of constants becomes a table in the program's data, where a constant array would be written out at each call.
-fn quadratic(k: u32) -> u64 {
+// A `match` of constants becomes a table in the program's data, where a constant array would be written out at each call. Any numbers would do.
+fn quadratic(k: u32) -> u64
+    ensures { λ r. ⌜ r < 2 ^ 64 ⌝ }
+{
     match k {
         0 => 0xb504f3bad2ab1da0,
         1 => 0xb5b99e82cfdf6d8f,

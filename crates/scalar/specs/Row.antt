@@ -49,12 +49,23 @@ update r held =
       response = respond (r .spring) (r .response) (weightOf (r .count) (g .grad) (r .im)) (g .error);
     }
 
--- a distance row whose relative error is past the least strain; the other types never are
+-- a distance row whose relative error, by its bias, is past the least strain; the other types never are
 unfoldable pub isStrained : SoftScalarConstraint → Float → Bool
 isStrained r least =
     eqb (r .kind) 0
-    && (lt f0 (r .spring .«erp_inv_dt»)
-    && (lt f0 (r .spring .rest) && lt (least ⊗ r .spring .rest) (abs (r .response .rhs ⊘ r .spring .«erp_inv_dt»))))
+    && lt f0 (r .spring .«erp_inv_dt»)
+    && lt f0 (r .spring .rest)
+    && lt (least ⊗ r .spring .rest) (abs (r .response .rhs ⊘ r .spring .«erp_inv_dt»))
+
+-- ---- what an update, a warm start or a solve leaves as it was
+
+abbrev pub withResponse : SoftScalarConstraint → Response → SoftScalarConstraint
+withResponse r s = record { kind = r .kind; count = r .count; pos = r .pos; im = r .im; grad = r .grad; spring = r .spring; response = s }
+
+abbrev pub withImpulse : SoftScalarConstraint → Float → SoftScalarConstraint
+withImpulse r x =
+    let s = r .response in
+    withResponse r (record { «inv_lhs» = s .«inv_lhs»; «cfm_gain» = s .«cfm_gain»; rhs = s .rhs; impulse = x; «peak_impulse» = s .«peak_impulse» })
 
 -- ---- what each place is to lose for an impulse: (grad im) impulse
 
@@ -67,19 +78,6 @@ losses grad im impulse =
       d = v.scale (v.scale (grad .d) (im .d)) impulse;
     }
 
-abbrev pub withImpulse : SoftScalarConstraint → Float → SoftScalarConstraint
-withImpulse r x =
-    let s = r .response in
-    record {
-      kind = r .kind;
-      count = r .count;
-      pos = r .pos;
-      im = r .im;
-      grad = r .grad;
-      spring = r .spring;
-      response = record { «inv_lhs» = s .«inv_lhs»; «cfm_gain» = s .«cfm_gain»; rhs = s .rhs; impulse = x; «peak_impulse» = s .«peak_impulse» };
-    }
-
 -- ---- solve
 
 -- dc += grad·velocity, for the places that are named
@@ -89,9 +87,13 @@ closing h g dc = cond (h .named) (dc ⊕ v.dot g (h .value)) dc
 unfoldable pub rateOf : Four → Holds → Float
 rateOf grad vel = closing (vel .d) (grad .d) (closing (vel .c) (grad .c) (closing (vel .b) (grad .b) (closing (vel .a) (grad .a) f0)))
 
--- the impulse, drawn into its bounds; a NaN stays one
+-- the impulse that answers the rate and the bias, before it is held to its bounds
+unfoldable pub soughtOf : Response → Float → Float
+soughtOf s dc = s .impulse ⊕ s .«inv_lhs» ⊗ (dc ⊕ s .rhs ⊖ s .«cfm_gain» ⊗ s .impulse)
+
+-- a NaN stays one
 unfoldable pub totalOf : Spring → Response → Float → Float
-totalOf p s dc = clamp (s .impulse ⊕ s .«inv_lhs» ⊗ (dc ⊕ s .rhs ⊖ s .«cfm_gain» ⊗ s .impulse)) (p .lower) (p .upper)
+totalOf p s dc = clamp (soughtOf s dc) (p .lower) (p .upper)
 
 unfoldable pub solve : SoftScalarConstraint → Holds → Solved
 solve r vel =
@@ -104,15 +106,7 @@ solve r vel =
 unfoldable pub withPeak : SoftScalarConstraint → SoftScalarConstraint
 withPeak r =
     let s = r .response in
-    record {
-      kind = r .kind;
-      count = r .count;
-      pos = r .pos;
-      im = r .im;
-      grad = r .grad;
-      spring = r .spring;
-      response = record { «inv_lhs» = s .«inv_lhs»; «cfm_gain» = s .«cfm_gain»; rhs = s .rhs; impulse = s .impulse; «peak_impulse» = max (s .«peak_impulse») (s .impulse) };
-    }
+    withResponse r (record { «inv_lhs» = s .«inv_lhs»; «cfm_gain» = s .«cfm_gain»; rhs = s .rhs; impulse = s .impulse; «peak_impulse» = max (s .«peak_impulse») (s .impulse) })
 
 -- the update of the main sweep: the peak first, from the impulse as it stood
 unfoldable pub begin : SoftScalarConstraint → Holds → SoftScalarConstraint

@@ -5,11 +5,10 @@ use Rattle.loops.specs.Loops.{whileUpTo}
 use Rattle.real.specs.Float.{_⊕_, _⊗_, _⊘_, f0, f1, f½}
 use Rattle.real.specs.Real.{abs}
 use Rattle.vector.specs.Vector.{zeroVector, add, scale, divide, dot, cross, lengthOf}
-use Rattle.vector.specs.Quaternion.{product, normalise, toMatrix}
+use Rattle.vector.specs.Quaternion.{product, normalise, toMatrix, fromAxisAngle}
 use Rattle.vector.specs.declared.Vec3.{Vec3}
 use Rattle.vector.specs.declared.Mat3.{Mat3}
 use Rattle.vector.specs.declared.Quat.{Quat}
-use Rattle.shape.specs.Trig.{fromAxisAngle}
 
 -- 0.1
 abbrev pub tenth : Float
@@ -30,23 +29,24 @@ crossSum r a = add (add (add zeroVector (cross (r .x) (a .x))) (cross (r .y) (a 
 unfoldable pub dotSum : Mat3 → Mat3 → Float
 dotSum r a = f0 ⊕ dot (r .x) (a .x) ⊕ dot (r .y) (a .y) ⊕ dot (r .z) (a .z)
 
--- the correction of a turn from q: an axis, as long as its angle
-unfoldable pub omega : Mat3 → Quat → Vec3
-omega a q = let r = toMatrix q in scale (crossSum r a) (f1 ⊘ (abs (dotSum r a) ⊕ nano))
+-- the source's omega: an axis to turn q about, as long as the angle
+unfoldable pub correction : Mat3 → Quat → Vec3
+correction a q = let r = toMatrix q in scale (crossSum r a) (f1 ⊘ (abs (dotSum r a) ⊕ nano))
 
 -- the small-correction test
 unfoldable pub settled : Mat3 → Quat → Bool
-settled a q = lt (lengthOf (omega a q)) noise
+settled a q = lt (lengthOf (correction a q)) noise
 
 -- a correction of more than 0.1 is taken by its axis and angle, any other to the first order
 unfoldable pub step : Vec3 → Float → Quat
 step o w = cond (lt tenth w) (fromAxisAngle (divide o w) w) (record { x = f½ ⊗ o .x; y = f½ ⊗ o .y; z = f½ ⊗ o .z; w = f1 })
 
+-- q after a turn by the correction o, which is w long
 unfoldable pub turned : Vec3 → Float → Quat → Quat
 turned o w q = normalise (product (step o w) q)
 
 unfoldable pub next : Mat3 → Quat → Quat
-next a q = turned (omega a q) (lengthOf (omega a q)) q
+next a q = turned (correction a q) (lengthOf (correction a q)) q
 
 -- at most eight turns
 unfoldable pub extractRotation : Mat3 → Quat → Quat

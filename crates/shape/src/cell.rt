@@ -43,8 +43,10 @@ pub fn cell_volume_gradients(x: Four) -> Four
     let g1 = face_gradient(b, c);
     let g2 = face_gradient(c, a);
     let g3 = face_gradient(a, b);
+    let sum = add(add(g1, g2), g3);
+    let g0 = neg(sum);
     Four {
-        a: neg(add(add(g1, g2), g3)),
+        a: g0,
         b: g1,
         c: g2,
         d: g3,

@@ -1,14 +1,15 @@
 -- A matrix that a loop makes column by column is the one that `fromFn` says. Assumes nothing.
 use Prim.Native.Nat.{ℕ, _+_, _*_, _/_, _%_, _<_, _≤_}
-use mathlib.Core.Path.{_≡_, refl, sym, ap, _∙_}
-use mathlib.Core.List.{List, [], _∷_}
+use mathlib.Core.Path.{_≡_, refl, ap, _∙_}
+use mathlib.Core.List.{List}
 use native.Mathlib.Omega.{arith}
-use lib.ListN.{length, getD, set}
+use lib.ListN.{length, set}
 use lib.Ieee.{Float, nan}
 use Rattle.loops.specs.Fill.{tabulate, Filled, filled-none, filled-column, filled-all}
 use Rattle.real.specs.Float.{at}
 use Rattle.strain.specs.Matrix.{fromFn}
 
+-- column j of `fromFn f`
 abbrev pub columnOf : (ℕ → ℕ → Float) → ℕ → List Float
 columnOf f j = tabulate 6 (λ i. f i j)
 
@@ -16,6 +17,7 @@ columnOf f j = tabulate 6 (λ i. f i j)
 abbrev pub setColumn : List Float → ℕ → List Float → List Float
 setColumn m j c = set (set (set (set (set (set m (j * 6) (at c 0)) (j * 6 + 1) (at c 1)) (j * 6 + 2) (at c 2)) (j * 6 + 3) (at c 3)) (j * 6 + 4) (at c 4)) (j * 6 + 5) (at c 5)
 
+-- element k of `fromFn f`
 abbrev pub cell : (ℕ → ℕ → Float) → ℕ → Float
 cell f k = f (k % 6) (k / 6)
 

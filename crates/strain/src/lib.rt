@@ -4,7 +4,6 @@ ghost use Prim.Native.Nat.{_<_};
 ghost use Rattle.strain.specs.Columns as columns;
 ghost use Rattle.strain.specs.Matrix as matrix;
 ghost use Rattle.strain.specs.Six as six;
-
 use real::abs;
 
 // ---- six-vectors
@@ -91,12 +90,8 @@ fn row_dot(m: &[f32; 36], i: usize, v: &[f32; 6]) -> f32
     requires { ⌜ i < 6 ⌝ }
     ensures { λ r. ⌜ r ≡ six.dot6 (matrix.row (now (m .entry)) i) (now (v .entry)) ⌝ }
 {
-    m[i] * v[0]
-        + m[i + 6] * v[1]
-        + m[i + 12] * v[2]
-        + m[i + 18] * v[3]
-        + m[i + 24] * v[4]
-        + m[i + 30] * v[5]
+    let r = [m[i], m[i + 6], m[i + 12], m[i + 18], m[i + 24], m[i + 30]];
+    dot6(&r, v)
 }
 
 pub fn mat_vec(m: &[f32; 36], v: &[f32; 6]) -> [f32; 6]
@@ -112,7 +107,7 @@ pub fn mat_vec(m: &[f32; 36], v: &[f32; 6]) -> [f32; 6]
     ]
 }
 
-pub fn column(m: &[f32; 36], j: usize) -> [f32; 6]
+fn column(m: &[f32; 36], j: usize) -> [f32; 6]
     requires { ⌜ j < 6 ⌝ }
     ensures { λ r. ⌜ r ≡ matrix.column (now (m .entry)) j ⌝ }
 {

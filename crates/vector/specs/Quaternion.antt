@@ -1,6 +1,7 @@
 -- Quaternions, as rotations; w is the real part. Definitions only. Assumes nothing.
 use lib.Ieee.{Float}
 use Rattle.real.specs.Float.{_⊕_, _⊖_, _⊗_, _⊘_, f1}
+use Rattle.real.specs.SinCos.{sinCos}
 use Rattle.root.specs.Root.{rootOf}
 use Rattle.vector.specs.declared.Vec3.{Vec3}
 use Rattle.vector.specs.declared.Mat3.{Mat3}
@@ -33,3 +34,7 @@ toMatrix q =
       y = record { x = q .x ⊗ y2 ⊖ q .w ⊗ z2; y = f1 ⊖ (q .x ⊗ x2 ⊕ q .z ⊗ z2); z = q .y ⊗ z2 ⊕ q .w ⊗ x2 };
       z = record { x = q .x ⊗ z2 ⊕ q .w ⊗ y2; y = q .y ⊗ z2 ⊖ q .w ⊗ x2; z = f1 ⊖ (q .x ⊗ x2 ⊕ q .y ⊗ y2) };
     }
+
+-- the axis times the sine of half of w, and the cosine
+unfoldable pub fromAxisAngle : Vec3 → Float → Quat
+fromAxisAngle axis w = let half = sinCos w in record { x = axis .x ⊗ half .s; y = axis .y ⊗ half .s; z = axis .z ⊗ half .s; w = half .c }

@@ -52,3 +52,16 @@ pub fn to_matrix(q: Quat) -> Mat3
         },
     }
 }
+
+// The rotation about an axis of length 1, by the angle w.
+pub fn from_axis_angle(axis: Vec3, w: f32) -> Quat
+    ensures { λ r. ⌜ r ≡ spec.fromAxisAngle axis w ⌝ }
+{
+    let half = real::sin_cos(w);
+    Quat {
+        x: axis.x * half.s,
+        y: axis.y * half.s,
+        z: axis.z * half.s,
+        w: half.c,
+    }
+}

@@ -1,109 +1,87 @@
--- `strain::row_dot` meets its contract. The sum is the definition, the row's entries in their places. Assumes nothing.
+-- `strain::row_dot` meets its contract. The array is the row. Assumes nothing.
 use borrow.Author.Needs.{needs}
-use mathlib.Core.Path.{refl}
-use Rattle.strain.specs.Six.{dot6}
 use Rattle.strain.specs.Matrix.{row}
 use Rattle.strain.proofs.row_dot.Statement.{statement}
 use Rattle.strain.proofs.row_dot.Tie as tie
 
-mul-result : tie.Need-mul-result
-mul-result c = search needs
+mul-t5 : tie.Need-mul-t5
+mul-t5 c = search needs
 
-element-copy-out-result : tie.Need-element-copy-out-result
-element-copy-out-result c = search needs
+element-copy-out-t8 : tie.Need-element-copy-out-t8
+element-copy-out-t8 c = search needs
 
-element-copy-out-result-2 : tie.Need-element-copy-out-result-2
-element-copy-out-result-2 c = search needs
+add-t9 : tie.Need-add-t9
+add-t9 c = search needs
 
-add-result : tie.Need-add-result
-add-result c = search needs
+mul-t10 : tie.Need-mul-t10
+mul-t10 c = search needs
 
-mul-result-2 : tie.Need-mul-result-2
-mul-result-2 c = search needs
+element-copy-out-t13 : tie.Need-element-copy-out-t13
+element-copy-out-t13 c = search needs
 
-element-copy-out-result-3 : tie.Need-element-copy-out-result-3
-element-copy-out-result-3 c = search needs
+add-t14 : tie.Need-add-t14
+add-t14 c = search needs
 
-element-copy-out-result-4 : tie.Need-element-copy-out-result-4
-element-copy-out-result-4 c = search needs
+mul-t15 : tie.Need-mul-t15
+mul-t15 c = search needs
 
-add-result-2 : tie.Need-add-result-2
-add-result-2 c = search needs
+element-copy-out-t18 : tie.Need-element-copy-out-t18
+element-copy-out-t18 c = search needs
 
-mul-result-3 : tie.Need-mul-result-3
-mul-result-3 c = search needs
+add-t19 : tie.Need-add-t19
+add-t19 c = search needs
 
-element-copy-out-result-5 : tie.Need-element-copy-out-result-5
-element-copy-out-result-5 c = search needs
+mul-t20 : tie.Need-mul-t20
+mul-t20 c = search needs
 
-element-copy-out-result-6 : tie.Need-element-copy-out-result-6
-element-copy-out-result-6 c = search needs
+element-copy-out-t23 : tie.Need-element-copy-out-t23
+element-copy-out-t23 c = search needs
 
-add-result-3 : tie.Need-add-result-3
-add-result-3 c = search needs
+add-t24 : tie.Need-add-t24
+add-t24 c = search needs
 
-mul-result-4 : tie.Need-mul-result-4
-mul-result-4 c = search needs
+mul-t25 : tie.Need-mul-t25
+mul-t25 c = search needs
 
-element-copy-out-result-7 : tie.Need-element-copy-out-result-7
-element-copy-out-result-7 c = search needs
+element-copy-out-t28 : tie.Need-element-copy-out-t28
+element-copy-out-t28 c = search needs
 
-element-copy-out-result-8 : tie.Need-element-copy-out-result-8
-element-copy-out-result-8 c = search needs
+add-t29 : tie.Need-add-t29
+add-t29 c = search needs
 
-add-result-4 : tie.Need-add-result-4
-add-result-4 c = search needs
+mul-t30 : tie.Need-mul-t30
+mul-t30 c = search needs
 
-mul-result-5 : tie.Need-mul-result-5
-mul-result-5 c = search needs
+element-copy-out-t33 : tie.Need-element-copy-out-t33
+element-copy-out-t33 c = search needs
 
-element-copy-out-result-9 : tie.Need-element-copy-out-result-9
-element-copy-out-result-9 c = search needs
-
-element-copy-out-result-10 : tie.Need-element-copy-out-result-10
-element-copy-out-result-10 c = search needs
-
-add-result-5 : tie.Need-add-result-5
-add-result-5 c = search needs
-
-mul-result-6 : tie.Need-mul-result-6
-mul-result-6 c = search needs
-
-element-copy-out-result-11 : tie.Need-element-copy-out-result-11
-element-copy-out-result-11 c = search needs
-
-element-copy-out-result-12 : tie.Need-element-copy-out-result-12
-element-copy-out-result-12 c = search needs
+dot6-requires : tie.Need-dot6-requires
+dot6-requires c κs = search needs
 
 returns : tie.Need-returns
-unfolding dot6 row
-returns c = refl
+unfolding row
+returns c = c .dot6 .ensures
 
 pub row-dot-spec : {M : Type 1} → statement M
 row-dot-spec =
     tie.close
     (tie.spec
-    mul-result
-    element-copy-out-result
-    element-copy-out-result-2
-    add-result
-    mul-result-2
-    element-copy-out-result-3
-    element-copy-out-result-4
-    add-result-2
-    mul-result-3
-    element-copy-out-result-5
-    element-copy-out-result-6
-    add-result-3
-    mul-result-4
-    element-copy-out-result-7
-    element-copy-out-result-8
-    add-result-4
-    mul-result-5
-    element-copy-out-result-9
-    element-copy-out-result-10
-    add-result-5
-    mul-result-6
-    element-copy-out-result-11
-    element-copy-out-result-12
+    mul-t5
+    element-copy-out-t8
+    add-t9
+    mul-t10
+    element-copy-out-t13
+    add-t14
+    mul-t15
+    element-copy-out-t18
+    add-t19
+    mul-t20
+    element-copy-out-t23
+    add-t24
+    mul-t25
+    element-copy-out-t28
+    add-t29
+    mul-t30
+    element-copy-out-t33
+    dot6-requires
     returns)

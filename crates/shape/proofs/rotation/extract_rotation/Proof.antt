@@ -15,8 +15,8 @@ abbrev μ-loop : tie.MeasureT-loop
 loop-holds : tie.Need-loop-holds Inv-loop μ-loop
 loop-holds c = coming-none
 
-omega-requires : tie.Need-omega-requires Inv-loop μ-loop
-omega-requires c κs = search needs
+correction-requires : tie.Need-correction-requires Inv-loop μ-loop
+correction-requires c κs = search needs
 
 length-requires : tie.Need-length-requires Inv-loop μ-loop
 length-requires c κs = search needs
@@ -49,7 +49,7 @@ extract-rotation-spec =
     Inv-loop
     μ-loop
     loop-holds
-    omega-requires
+    correction-requires
     length-requires
     turned-requires
     add-i

@@ -1,0 +1,10 @@
+-- The theorems on check's answers. Assumes nothing.
+pub mod Parsing
+pub mod Wholes
+pub mod Pairs
+pub mod Relistings
+pub mod Numbers
+pub mod Reaching
+pub mod Meets
+pub mod Givens
+pub mod Examples

@@ -1,0 +1,5 @@
+-- Laws of the clash test. Assumes nothing.
+pub mod Places
+pub mod Marking
+pub mod Turns
+pub mod Rows

@@ -1,0 +1,3 @@
+-- Rows of one colour that name one point. Assumes nothing.
+pub mod Clash
+pub mod Marks

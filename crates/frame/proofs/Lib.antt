@@ -1,0 +1,3 @@
+-- Laws of whole frames. Assumes nothing.
+pub mod Scans
+pub mod Answered

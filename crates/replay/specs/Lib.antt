@@ -1,0 +1,2 @@
+-- The words of a record of the oracle's stored answers. Assumes nothing.
+pub mod Words

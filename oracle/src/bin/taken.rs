@@ -1,0 +1,5 @@
+//! Prints what was left out of the listed Rust and what was edited.
+
+fn main() {
+    print!("{}", oracle::TAKEN);
+}
