@@ -189,7 +189,7 @@ fn link(package: &Path) {
     println!("cargo::rerun-if-env-changed=RATTLE_LIB");
     let place = package.join(env::var("RATTLE_LIB").unwrap_or("../target/staticlib".into()));
     println!("cargo::rustc-link-search=native={}", place.display());
-    for name in ["arith_ffi", "frame"] {
+    for name in ["arith_ffi", "rows_ffi", "frame"] {
         let library = place.join(format!("lib{name}.a"));
         assert!(
             library.exists(),

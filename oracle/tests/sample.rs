@@ -5,7 +5,7 @@ use oracle::random::Random;
 use std::{fs, path::Path};
 
 /// Where they lie, seen from here: the data of the programs that replay them.
-const SAMPLES: [&str; 2] = ["../crates/replay_arith/data", "sample"];
+const SAMPLES: [&str; 2] = ["../crates/replay_arith/data", "../crates/replay_rows/data"];
 
 /// The words of a little-endian file.
 fn words(place: &Path) -> Vec<u32> {

@@ -1,4 +1,5 @@
-// Replays the oracle's stored answers to the arithmetic through the proved functions, and writes for each of them how many answers differ.
+// Replays the oracle's stored answers to the arithmetic through the proved functions, and writes for each of them how many answers differ. How data/ was
+// made is in oracle/README.md, "Inputs and vectors", and what its words are in "The table".
 mod of_matrix;
 mod of_real;
 mod of_shape;

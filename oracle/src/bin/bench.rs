@@ -1,10 +1,14 @@
 //! Times the Rattle functions beside the oracle in one run: nanoseconds of each, best of several repetitions, and the ratio.
 
 use oracle::answers::Six6;
-use oracle::direct;
-use oracle::inputs::{near_rotation, stretched, unit_rotation};
+use oracle::direct::{self, RowCalls};
+use oracle::inputs::{
+    Typical, near_rotation, stretched, typical_corotational, typical_neo_hookean, typical_scalar,
+    unit_rotation,
+};
 use oracle::random::Random;
-use oracle::rattle;
+use oracle::rattle::{self, Linked, ready};
+use oracle::rows::Points;
 use oracle::support::na::SMatrix;
 use oracle::support::vector::{Matrix, Rotation};
 use std::hint::black_box;
@@ -13,28 +17,39 @@ use std::time::Instant;
 /// How many inputs are gone through again and again.
 const INPUTS: usize = 512;
 /// How many times the inputs are gone through for one timing, and how many timings there are.
-const ROUNDS: usize = 10;
-const TIMINGS: usize = 200;
+const ROUNDS: usize = 2;
+const TIMINGS: usize = 1000;
 
-/// Prints the shortest time of a call of each, in nanoseconds. The two take turns, so that what else the machine does meets both.
-fn race<T>(name: &str, inputs: &[T], mut rattle: impl FnMut(&T), mut oracle: impl FnMut(&T)) {
-    let calls = (ROUNDS * inputs.len()) as f64;
-    let timing = |call: &mut dyn FnMut(&[T])| {
-        let start = Instant::now();
-        for _ in 0..ROUNDS {
-            call(inputs);
-        }
-        start.elapsed().as_nanos() as f64 / calls
-    };
-    let (mut first, mut second) = (f64::INFINITY, f64::INFINITY);
+/// The shortest time of each of these, in nanoseconds by input. They take turns, so that what else the machine does meets all.
+fn shortest<const N: usize>(inputs: usize, mut runs: [&mut dyn FnMut(); N]) -> [f64; N] {
+    let calls = (ROUNDS * inputs) as f64;
+    let mut shortest = [f64::INFINITY; N];
     for _ in 0..TIMINGS {
-        first = first.min(timing(&mut |inputs| inputs.iter().for_each(&mut rattle)));
-        second = second.min(timing(&mut |inputs| inputs.iter().for_each(&mut oracle)));
+        for (run, shortest) in runs.iter_mut().zip(&mut shortest) {
+            let start = Instant::now();
+            for _ in 0..ROUNDS {
+                run();
+            }
+            *shortest = shortest.min(start.elapsed().as_nanos() as f64 / calls);
+        }
     }
-    println!(
-        "{name:<28} Rattle {first:>7.1} ns   oracle {second:>7.1} ns   ratio {:.2}",
-        first / second
+    shortest
+}
+
+fn line(name: &str, rattle: f64, oracle: f64) -> String {
+    let ratio = rattle / oracle;
+    format!("{name:<30} Rattle {rattle:>7.1} ns   oracle {oracle:>7.1} ns   ratio {ratio:.2}")
+}
+
+/// Prints the time of a call of each.
+fn race<T>(name: &str, inputs: &[T], mut rattle: impl FnMut(&T), mut oracle: impl FnMut(&T)) {
+    let [first, second] = shortest(
+        inputs.len(),
+        [&mut || inputs.iter().for_each(&mut rattle), &mut || {
+            inputs.iter().for_each(&mut oracle)
+        }],
     );
+    println!("{}", line(name, first, second));
 }
 
 fn main() {
@@ -43,6 +58,8 @@ fn main() {
     six_rows(random);
     eigen(random);
     rotations(random);
+    scalar_rows(random);
+    elastic_rows(random);
 }
 
 fn roots(random: &mut Random) {
@@ -153,5 +170,90 @@ fn rotations(random: &mut Random) {
                 black_box(direct::extract_rotation(a, warm));
             },
         );
+    }
+}
+
+/// The rows of one kind, ready for Rattle, for the oracle called alike, and for the oracle in place.
+fn all_ready<R: Linked, B, C>(
+    rows: &[Typical<R>],
+    oracle: impl Fn(Points, R) -> (B, C),
+    of: impl Fn(&Typical<R>) -> R,
+) -> (Vec<impl RowCalls>, Vec<B>, Vec<C>) {
+    let ours = rows.iter().map(|row| ready(row.points, of(row))).collect();
+    let (handed, in_place) = rows.iter().map(|row| oracle(row.points, of(row))).unzip();
+    (ours, handed, in_place)
+}
+
+fn print_three(name: &str, [rattle, handed, in_place]: [f64; 3]) {
+    let line = line(name, rattle, handed);
+    println!("{line}   in place {in_place:>7.1} ns");
+}
+
+/// Times the update: each call gathers the positions of the row's points and gives the row anew.
+fn race_update<R: Linked, B: RowCalls, C: RowCalls>(
+    name: &str,
+    rows: &[Typical<R>],
+    oracle: impl Fn(Points, R) -> (B, C),
+) {
+    let (ours, handed, in_place) = all_ready(rows, oracle, |row| row.row);
+    let times = shortest(
+        rows.len(),
+        [
+            &mut || ours.iter().for_each(RowCalls::update),
+            &mut || handed.iter().for_each(RowCalls::update),
+            &mut || in_place.iter().for_each(RowCalls::update),
+        ],
+    );
+    print_three(name, times);
+}
+
+/// Times the solve after an update: each call gathers the velocities of the row's points, alters the row's impulses, and takes from
+/// the points what they lose.
+fn race_solve<R: Linked, B: RowCalls, C: RowCalls>(
+    name: &str,
+    rows: &[Typical<R>],
+    oracle: impl Fn(Points, R) -> (B, C),
+) {
+    let (mut ours, mut handed, mut in_place) = all_ready(rows, oracle, |row| row.updated);
+    let times = shortest(
+        rows.len(),
+        [
+            &mut || ours.iter_mut().for_each(RowCalls::solve),
+            &mut || handed.iter_mut().for_each(RowCalls::solve),
+            &mut || in_place.iter_mut().for_each(RowCalls::solve),
+        ],
+    );
+    print_three(name, times);
+}
+
+fn scalar_rows(random: &mut Random) {
+    for (kind, name) in ["distance", "dihedral", "cell volume"]
+        .into_iter()
+        .enumerate()
+    {
+        let rows: Vec<_> = (0..INPUTS)
+            .map(|_| typical_scalar(random, kind as u32))
+            .collect();
+        race_update(&format!("{name}, update"), &rows, direct::scalar);
+        race_solve(&format!("{name}, solve"), &rows, direct::scalar);
+    }
+}
+
+fn elastic_rows(random: &mut Random) {
+    let rows: Vec<_> = (0..INPUTS).map(|_| typical_corotational(random)).collect();
+    race_update("corotational, update", &rows, direct::corotational);
+    race_solve("corotational, solve", &rows, direct::corotational);
+    for (name, kept) in [("kept", true), ("renewed", false)] {
+        let rows: Vec<_> = (0..INPUTS)
+            .map(|_| typical_neo_hookean(random, kept))
+            .collect();
+        race_update(
+            &format!("neo-Hookean, update, {name}"),
+            &rows,
+            direct::neo_hookean,
+        );
+        if kept {
+            race_solve("neo-Hookean, solve", &rows, direct::neo_hookean);
+        }
     }
 }

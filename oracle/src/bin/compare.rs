@@ -12,14 +12,12 @@ use std::env;
 use std::process::ExitCode;
 
 #[cfg(feature = "rattle")]
-use oracle::rattle::RATTLE;
-#[cfg(not(feature = "rattle"))]
-const RATTLE: &[(&str, Call)] = &[];
+use oracle::rattle::linked;
 
-/// The Rattle function of that name, if it is linked.
-fn linked(name: &str) -> Option<Call> {
-    let entry = RATTLE.iter().find(|entry| entry.0 == name)?;
-    Some(entry.1)
+/// Without the feature none is.
+#[cfg(not(feature = "rattle"))]
+fn linked(_name: &str) -> Option<Call> {
+    None
 }
 
 fn main() -> ExitCode {

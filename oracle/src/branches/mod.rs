@@ -54,10 +54,16 @@ pub const NONE: Branches = Branches {
 };
 
 /// Branches that may stay at 0, and why.
-pub const RARE: &[(&str, &str)] = &[(
-    "d = -0",
-    ": the diagonal of I + strain is never -0; met in symmetric_eigen and neo_hookean_hessian",
-)];
+pub const RARE: &[(&str, &str)] = &[
+    (
+        "d = -0",
+        ": the diagonal of I + strain is never -0; met in symmetric_eigen and neo_hookean_hessian",
+    ),
+    (
+        "distance, length is NaN",
+        ": needs a NaN in a `pos` that no point refreshes, one input in 40,000; met in scalar_compute_gradients",
+    ),
+];
 
 /// How often each branch was taken.
 pub struct Tally(Vec<(&'static str, u64)>);

@@ -21,17 +21,17 @@ use crate::words::{Words, bits, value_of, words_of};
 /// How many inputs are fixed: see `first_cell`.
 const FIRST: usize = 18;
 
-fn six(mut f: impl FnMut(usize) -> f32) -> StrainVector {
+pub(super) fn six(mut f: impl FnMut(usize) -> f32) -> StrainVector {
     SVector(std::array::from_fn(&mut f))
 }
 
 /// The inverse of a 3×3 matrix, near enough to make a rest shape.
-fn inverse(m: Matrix) -> Matrix {
+pub(super) fn inverse(m: Matrix) -> Matrix {
     cofactor(&m).transpose() * (1.0 / m.determinant())
 }
 
 /// The cell of the identity: its edges are the axes.
-fn corner() -> [Vector; 4] {
+pub(super) fn corner() -> [Vector; 4] {
     [Vector::ZERO, Vector::X, Vector::Y, Vector::Z]
 }
 

@@ -6,8 +6,10 @@ mod arithmetic;
 mod elastic;
 mod numbers;
 mod scalar;
+mod typical;
 
 pub use arithmetic::*;
 pub use elastic::*;
 pub use numbers::*;
 pub use scalar::*;
+pub use typical::*;

@@ -1,10 +1,7 @@
-//! The Rattle functions of the static library `arith_ffi`, under the names of the table of answers.
-//!
-//! This is the one place that says how they are called: `rt_NAME`, structs of floats by value as C lays them out, arrays by pointer
-//! with the answer's place last. A function is added by its declaration and its line in `RATTLE`.
+//! The arithmetic: the functions of `arith_ffi`.
 
+use super::laid::Four;
 use crate::answers::{Call, Six, Six6};
-use crate::called;
 use crate::support::na::SVector;
 use crate::support::real::Real;
 use crate::support::vector::{Matrix, Rotation, Vector};
@@ -20,23 +17,6 @@ pub struct SinCos {
 }
 
 words_of!(SinCos { s: Real, c: Real });
-
-/// Four vectors: the points of a cell.
-#[repr(C)]
-#[derive(Clone, Copy, Debug)]
-pub struct Four {
-    pub a: Vector,
-    pub b: Vector,
-    pub c: Vector,
-    pub d: Vector,
-}
-
-words_of!(Four {
-    a: Vector,
-    b: Vector,
-    c: Vector,
-    d: Vector
-});
 
 /// Eigenvalues, and the eigenvectors as columns.
 #[repr(C)]
@@ -134,12 +114,6 @@ pub fn differing_roots() -> usize {
         bits(rt_root(x)) != bits(direct::root(x))
     };
     (0..=u32::MAX).filter(differs).count()
-}
-
-macro_rules! rattle {
-    ($($name:ident($($arg:ident: $type:ty),*) -> $out:ty = $body:expr;)*) => {
-        &[$((stringify!($name), called!(($($arg: $type),*) -> $out = $body)),)*]
-    };
 }
 
 /// The linked functions, as functions of words.

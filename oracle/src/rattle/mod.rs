@@ -1,0 +1,32 @@
+//! The Rattle functions of the static libraries `arith_ffi` and `rows_ffi`, under the names of the table of answers.
+//!
+//! This is the one place that says how they are called: `rt_NAME`, structs by value as C lays them out, arrays by pointer with the
+//! answer's place last. A function is added by its declaration and its line in the `RATTLE` of its file.
+//! Beside them the `check` of the static library `frame`, which is no function of words.
+
+/// Functions of values under their names, as functions of words.
+macro_rules! rattle {
+    ($($name:ident($($arg:ident: $type:ty),*) -> $out:ty = $body:expr;)*) => {
+        &[$((stringify!($name), $crate::called!(($($arg: $type),*) -> $out = $body)),)*]
+    };
+}
+
+mod arithmetic;
+mod check;
+mod laid;
+mod rows;
+
+pub use arithmetic::{
+    differing_roots, rt_extract_rotation, rt_mat_mul, rt_root, rt_symmetric_eigen, rt_try_inverse,
+};
+pub use check::check;
+pub use rows::{Linked, ready};
+
+use crate::answers::Call;
+
+/// The Rattle function of that name, if it is linked.
+pub fn linked(name: &str) -> Option<Call> {
+    let mut all = arithmetic::RATTLE.iter().chain(rows::RATTLE);
+    let entry = all.find(|entry| entry.0 == name)?;
+    Some(entry.1)
+}
