@@ -17,8 +17,6 @@ mod listed;
 pub mod random;
 #[cfg(feature = "rattle")]
 pub mod rattle;
-#[cfg(feature = "rattle")]
-pub mod rattle_check;
 pub mod rows;
 pub mod support;
 pub mod words;

@@ -5,7 +5,7 @@ use oracle::check::check;
 use oracle::frames::Frame;
 use oracle::layout::{COROTATIONAL, MOST, NEO_HOOKEAN, OVERFLOW, ROWS, Record, SCALAR};
 use oracle::random::Random;
-use oracle::rattle_check;
+use oracle::rattle;
 use std::hint::black_box;
 use std::time::Instant;
 
@@ -45,7 +45,7 @@ fn times(frame: &[u8], rounds: u32) -> (f64, f64) {
     let (mut checking, mut copying) = (f64::INFINITY, f64::INFINITY);
     for _ in 0..TIMINGS {
         checking = checking.min(timing(&mut || {
-            assert_eq!(rattle_check::check(black_box(frame)), (0, 0));
+            assert_eq!(rattle::check(black_box(frame)), (0, 0));
         }));
         copying = copying.min(timing(&mut || {
             copy.copy_from_slice(black_box(frame));

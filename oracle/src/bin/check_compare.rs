@@ -6,7 +6,7 @@
 
 use oracle::check::{Refusal, test};
 use oracle::layout::{RECORDS, ROWS};
-use oracle::{frames, rattle_check};
+use oracle::{frames, rattle};
 use std::collections::HashMap;
 use std::env;
 use std::hint::black_box;
@@ -74,7 +74,7 @@ impl Found {
         let start = held.len();
         held.extend(frame);
         held.extend(&AROUND);
-        let answer = rattle_check::check(black_box(&held[start..start + frame.len()]));
+        let answer = rattle::check(black_box(&held[start..start + frame.len()]));
         let held = black_box(held);
         let (before, rest) = held.split_at(start);
         let (same, after) = rest.split_at(frame.len());
@@ -175,7 +175,7 @@ fn main() -> ExitCode {
             frame.len()
         );
         println!("  independent {:?}", oracle::check::check(frame));
-        println!("  Rattle      {:?}", rattle_check::check(frame));
+        println!("  Rattle      {:?}", rattle::check(frame));
     }
     println!(
         "{} answers differ, {} buffers altered",

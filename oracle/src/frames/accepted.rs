@@ -4,11 +4,14 @@ use crate::inputs::{finite_pattern, finite_special};
 use crate::layout::{HEAD, Holds, OVERFLOW, POINT, ROWS, Record, SCALAR};
 use crate::random::Random;
 
+/// Where a record starts, and its kind.
+pub type Placed = (usize, &'static Record);
+
 /// A frame, and where its records start.
 #[derive(Clone, Debug, Default)]
 pub struct Frame {
     pub bytes: Vec<u8>,
-    pub records: Vec<(usize, &'static Record)>,
+    pub records: Vec<Placed>,
 }
 
 impl Frame {

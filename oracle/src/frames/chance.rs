@@ -1,9 +1,9 @@
 //! Frames by chance: an accepted one, then the same with one fault, with several, and bytes of no meaning.
 
-use super::accepted::{Frame, accepted, kinds};
+use super::accepted::{Frame, Placed, accepted, kinds};
 use super::values::{KINDS, LENGTHS, values};
 use super::{Visit, number_at, write};
-use crate::layout::{HEAD, MOST, OVERFLOW, POINT, ROWS, Record, START};
+use crate::layout::{HEAD, MOST, OVERFLOW, POINT, ROWS, START};
 use crate::random::Random;
 
 /// The sort of frame that is always accepted.
@@ -34,30 +34,23 @@ pub fn some(random: &mut Random, visit: &mut Visit) {
 
 /// How many points and rows: mostly few, one time in two hundred up to the most.
 fn sizes(random: &mut Random) -> (u32, usize) {
-    let most = MOST as usize;
     let (points, rows) = match random.below(200) {
-        0 => (
-            [most, most - 1, random.below(most), random.below(most)],
-            [most, most - 1, random.below(most), random.below(most)],
-        ),
-        1..10 => ([random.below(300); 4], [random.below(150); 4]),
-        _ => ([random.below(10); 4], [random.below(6); 4]),
+        0 => (MOST as usize, MOST as usize),
+        1..10 => (300, 150),
+        _ => (9, 5),
     };
-    (random.pick(&points) as u32, random.pick(&rows))
+    let mut up_to = |most| match random.one_in(4) {
+        true => most,
+        false => random.below(most),
+    };
+    (up_to(points) as u32, up_to(rows))
 }
 
 /// Makes one fault, or what looks like one. `frame` says where the records were before.
 fn damage(random: &mut Random, frame: &Frame, bytes: &mut Vec<u8>) {
     let (start, record) = random.pick(&frame.records);
     match random.below(13) {
-        0..4 => {
-            let parts: Vec<_> = record.parts().collect();
-            let part = random.pick(&parts);
-            let (at, width) = (start + part.offset, part.field.holds.width());
-            let now = number_at(&frame.bytes, at, width);
-            let value = random.pick(&values(part.field.holds, now));
-            write(bytes, at, value, width);
-        }
+        0..4 => field(random, frame, (start, record), bytes),
         4 => write(bytes, start, random.pick(&LENGTHS), 4),
         5 => write(bytes, start + 4, random.pick(&KINDS).into(), 2),
         6 => {
@@ -84,22 +77,34 @@ fn damage(random: &mut Random, frame: &Frame, bytes: &mut Vec<u8>) {
                 bytes.remove(place);
             }
         }
-        10 => {
-            // Two records change places; those of one size leave all others where they are.
-            let (other, second) = random.pick(&frame.records);
-            if second.size() == record.size() && other.max(start) + record.size() <= bytes.len() {
-                for i in 0..record.size() {
-                    bytes.swap(start + i, other + i);
-                }
-            }
-        }
+        10 => exchange((start, record), random.pick(&frame.records), bytes),
         _ => share(random, frame, bytes),
+    }
+}
+
+/// Sets some part of a record to a value at or around its limits.
+fn field(random: &mut Random, frame: &Frame, (start, record): Placed, bytes: &mut [u8]) {
+    let parts: Vec<_> = record.parts().collect();
+    let part = random.pick(&parts);
+    let (at, width) = (start + part.offset, part.field.holds.width());
+    let now = number_at(&frame.bytes, at, width);
+    let value = random.pick(&values(part.field.holds, now));
+    write(bytes, at, value, width);
+}
+
+/// Two records of one size change places.
+fn exchange((first, record): Placed, (second, other): Placed, bytes: &mut [u8]) {
+    let size = record.size();
+    if other.size() == size && first.max(second) + size <= bytes.len() {
+        for i in 0..size {
+            bytes.swap(first + i, second + i);
+        }
     }
 }
 
 /// Lets two rows name one id, and mostly be of one colour, the rows between them too.
 fn share(random: &mut Random, frame: &Frame, bytes: &mut [u8]) {
-    let is_row = |&&(_, record): &&(usize, &Record)| record.kind > POINT.kind;
+    let is_row = |&&(_, record): &&Placed| record.kind > POINT.kind;
     let rows: Vec<_> = frame.records.iter().filter(is_row).collect();
     if rows.is_empty() {
         return;
