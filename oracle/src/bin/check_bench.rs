@@ -1,7 +1,6 @@
 //! Times the Rattle `check` on accepted frames with as many points as rows, from 64 rows to 4,096, beside a memory copy of the same
 //! bytes, in one run: the shortest time of several.
 
-use oracle::check::check;
 use oracle::frames::Frame;
 use oracle::layout::{COROTATIONAL, MOST, NEO_HOOKEAN, OVERFLOW, ROWS, Record, SCALAR};
 use oracle::random::Random;
@@ -11,7 +10,7 @@ use std::time::Instant;
 
 /// Each size is half the next.
 const SIZES: [u32; 7] = [64, 128, 256, 512, 1024, 2048, MOST];
-/// How many timings there are; each goes through 4,096 rows.
+/// How many timings of each frame there are; each goes through 4,096 rows.
 const TIMINGS: usize = 60;
 
 /// How a row's colour depends on its number and on the number of rows.
@@ -28,31 +27,71 @@ fn frame(random: &mut Random, rows: u32, kinds: &[&'static Record], colour: Colo
             frame.put(row, "count", 0, 4);
         }
     }
-    assert_eq!(check(&frame.bytes), (0, 0));
+    assert_eq!(rattle::check(&frame.bytes), (0, 0));
     frame.bytes
 }
 
-/// Nanoseconds of one `check` of the frame and of one copy of it. The two take turns, so that what else the machine does meets both.
-fn times(frame: &[u8], rounds: u32) -> (f64, f64) {
-    let mut copy = vec![0; frame.len()];
-    let timing = |call: &mut dyn FnMut()| {
-        let start = Instant::now();
-        for _ in 0..rounds {
+/// A frame, and the shortest times of one `check` and of one copy of it so far, in nanoseconds.
+struct Case {
+    rows: u32,
+    frame: Vec<u8>,
+    checking: f64,
+    copying: f64,
+}
+
+impl Case {
+    /// Takes each time once more, after a call that is not timed.
+    fn time(&mut self, copy: &mut [u8]) {
+        let (frame, rounds) = (&self.frame[..], MOST / self.rows);
+        let copy = &mut copy[..frame.len()];
+        let timing = |call: &mut dyn FnMut()| {
             call();
-        }
-        start.elapsed().as_nanos() as f64 / f64::from(rounds)
-    };
-    let (mut checking, mut copying) = (f64::INFINITY, f64::INFINITY);
-    for _ in 0..TIMINGS {
-        checking = checking.min(timing(&mut || {
-            assert_eq!(rattle::check(black_box(frame)), (0, 0));
-        }));
-        copying = copying.min(timing(&mut || {
+            let start = Instant::now();
+            for _ in 0..rounds {
+                call();
+            }
+            start.elapsed().as_nanos() as f64 / f64::from(rounds)
+        };
+        let checking = timing(&mut || {
+            black_box(rattle::check(black_box(frame)));
+        });
+        let copying = timing(&mut || {
             copy.copy_from_slice(black_box(frame));
-            black_box(&copy);
-        }));
+            black_box(&*copy);
+        });
+        self.checking = self.checking.min(checking);
+        self.copying = self.copying.min(copying);
     }
-    (checking, copying)
+
+    fn for_each_row(&self) -> f64 {
+        self.checking / f64::from(self.rows)
+    }
+}
+
+/// The frames of one line of what is printed: one of each size.
+fn line(random: &mut Random, kinds: &[&'static Record], colour: Colour) -> [Case; 7] {
+    SIZES.map(|rows| Case {
+        rows,
+        frame: frame(random, rows, kinds, colour),
+        checking: f64::INFINITY,
+        copying: f64::INFINITY,
+    })
+}
+
+fn print(name: &str, cases: &[Case; 7]) {
+    print!("{name:<30}");
+    cases
+        .iter()
+        .for_each(|case| print!("{:>7.1}", case.for_each_row()));
+    let [smallest, .., largest] = cases;
+    let bytes = largest.frame.len() as f64;
+    println!(
+        "{:>8.2}{:>8.2}{:>8.2}{:>8.2}",
+        largest.for_each_row() / smallest.for_each_row(),
+        bytes / largest.checking,
+        bytes / largest.copying,
+        largest.checking / largest.copying
+    );
 }
 
 fn main() {
@@ -68,30 +107,32 @@ fn main() {
         ("a colour each", |number, _| number),
         ("overflow", |_, _| OVERFLOW.into()),
     ];
+    let mut lines = Vec::new();
+    for (kind, records) in kinds {
+        for (name, colour) in colours {
+            lines.push((format!("{kind}, {name}"), line(random, records, colour)));
+        }
+    }
+    let largest = lines
+        .iter()
+        .flat_map(|(_, cases)| cases)
+        .map(|case| case.frame.len())
+        .max();
+    let mut copy = vec![0; largest.unwrap_or(0)];
+    // All take turns, so that what else the machine does meets all alike.
+    for _ in 0..TIMINGS {
+        for (_, cases) in &mut lines {
+            cases.iter_mut().for_each(|case| case.time(&mut copy));
+        }
+    }
     println!("nanoseconds of check for each row, with its point; growth is the last by the first");
     println!(
         "the largest frame: gigabytes in a second, and how many times as long as a copy check takes"
     );
     print!("{:<30}", "rows");
-    for rows in SIZES {
-        print!("{rows:>7}");
-    }
+    SIZES.iter().for_each(|rows| print!("{rows:>7}"));
     println!("  growth   check    copy   ratio");
-    for (kind, records) in kinds {
-        for (name, colour) in colours {
-            print!("{:<30}", format!("{kind}, {name}"));
-            let (mut each, mut speeds) = (Vec::new(), (0.0, 0.0));
-            for rows in SIZES {
-                let frame = frame(random, rows, records, colour);
-                let (checking, copying) = times(&frame, MOST / rows);
-                let bytes = frame.len() as f64;
-                each.push(checking / f64::from(rows));
-                speeds = (bytes / checking, bytes / copying);
-            }
-            each.iter().for_each(|time| print!("{time:>7.1}"));
-            let growth = each[each.len() - 1] / each[0];
-            let (check, copy) = speeds;
-            println!("{growth:>8.2}{check:>8.2}{copy:>8.2}{:>8.2}", copy / check);
-        }
+    for (name, cases) in &lines {
+        print(name, cases);
     }
 }
