@@ -82,19 +82,19 @@ module _ {Pt : Type 0} (position velocity : Pt → Vec3) (lose : Vec3 → Pt →
   unfolding keyOf
   key-kept r b d k = λ i. record { colour = r .colour; names = k .names i (r .ids); im = k .masses i }
 
-  update-local : (least : Float) → Local Sheet (by position velocity lose N (update position velocity lose N least))
+  pub update-local : (least : Float) → Local Sheet (by position velocity lose N (update position velocity lose N least))
   unfolding update
   update-local least = work-local Pt keyOf (read N) (written N) (among N) lose (update position velocity lose N least)
       (λ r vs. key-kept r _ _ (update-keeps (r .constraint) (holdsOf position (keyOf r .names) vs)))
       (λ r vs c m. absurd (List·Memᴰ·not-nil m))
 
-  warm-local : (coeff : Float) → Local Sheet (by position velocity lose N (warm position velocity lose N coeff))
+  pub warm-local : (coeff : Float) → Local Sheet (by position velocity lose N (warm position velocity lose N coeff))
   unfolding warm
   warm-local coeff = work-local Pt keyOf (read N) (written N) (among N) lose (warm position velocity lose N coeff)
       (λ r vs. key-kept r _ _ (warm-keeps (r .constraint) coeff))
       (λ r vs c m. losses-at N (keyOf r .names) _ c m)
 
-  solve-local : Local Sheet (by position velocity lose N (solve position velocity lose N))
+  pub solve-local : Local Sheet (by position velocity lose N (solve position velocity lose N))
   unfolding solve
   solve-local = work-local Pt keyOf (read N) (written N) (among N) lose (solve position velocity lose N)
       (λ r vs. key-kept r _ _ (solve-keeps (r .constraint) (holdsOf velocity (keyOf r .names) vs)))

@@ -3,3 +3,5 @@ pub mod Fields
 pub mod Read
 pub mod Put
 pub mod Points
+pub mod Kept
+pub mod Local
