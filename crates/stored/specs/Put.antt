@@ -21,7 +21,7 @@ use Rattle.stored.specs.Fields.{floatsAt, putF32, putFour, putMat3, putQ
 abbrev pub putFlag : List ℕ → ℕ → Bool → List ℕ
 putFlag b k t = patch b k (bytes2 (cond t 1 0))
 
--- ---- an update. (A position that is not fetched, and a gradient that a distance row leaves, are put back as they were: the same bytes.)
+-- ---- an update. (A position that is not fetched, and a gradient that a distance row leaves, are put back as they were read. That this leaves the same bytes is still to be proved.)
 
 unfoldable pub putResponse : Response → List ℕ → List ℕ
 putResponse s b =
