@@ -17,7 +17,7 @@ use Rattle.vector.specs.declared.Mat3.{Mat3}
 use Rattle.vector.specs.declared.Quat.{Quat}
 use Rattle.vector.specs.declared.Four.{Four}
 use Rattle.rows.specs.Row.{Row, Key, keyOf, namesOf, massesOf, Constraint, scalar, corotational, neoHookean, places, countedPlaces}
-use Rattle.stored.specs.Fields.{idsAt, massesAt, putF32, putVec3, putFour, putMat3, putQuat, putFloats}
+use Rattle.floats.specs.Fields.{idsAt, massesAt, putF32, putVec3, putFour, putMat3, putQuat, putFloats}
 use Rattle.stored.specs.Put.{putFlag}
 use Rattle.stored.specs.Read.{rowOf, constraintOf, scalarOf, corotationalOf, neoHookeanOf, cellOf}
 

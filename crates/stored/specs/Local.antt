@@ -21,7 +21,7 @@ use Rattle.neo_hookean.specs.declared.NeoHookeanRow.{NeoHookeanRow}
 use Rattle.records.specs.Layout as at
 use Rattle.rows.specs.Row.{Row, Key, keyOf, Constraint, scalar, corotational, neoHookean}
 use Rattle.rows.specs.Local as rows
-use Rattle.stored.specs.Fields.{floatsAt, putF32, putFour, putMat3, putQuat, putFloats}
+use Rattle.floats.specs.Fields.{floatsAt, putF32, putFour, putMat3, putQuat, putFloats}
 use Rattle.stored.specs.Read.{rowOf}
 use Rattle.stored.specs.Put.{putFlag, putResponse, putScalar, putPose, putVolume, putCorotational, putRenewed, putBlock, putNeoHookean, putConstraint, putUpdate, putImpulses, warmConstraint, putWarm, solveConstraint, putSolve}
 use Rattle.stored.specs.Points.{position, velocity, lose, Points, only, update, warm, solve, mainStep, resweepStep}

@@ -11,7 +11,7 @@ use Rattle.vector.specs.declared.Vec3.{Vec3}
 use Rattle.records.specs.Layout as at
 use Rattle.rows.specs.Row.{Row}
 use Rattle.rows.specs.Step as step
-use Rattle.stored.specs.Fields.{vec3At, putVec3}
+use Rattle.floats.specs.Fields.{vec3At, putVec3}
 use Rattle.stored.specs.Read.{rowOf}
 use Rattle.stored.specs.Put.{putUpdate, putWarm, putSolve}
 

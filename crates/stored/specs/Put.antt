@@ -15,7 +15,7 @@ use Rattle.neo_hookean.specs.NeoHookean.{isFresh}
 use Rattle.neo_hookean.specs.declared.Stiffness.{Stiffness}
 use Rattle.neo_hookean.specs.declared.NeoHookeanRow.{NeoHookeanRow}
 use Rattle.rows.specs.Row.{Row, Constraint, scalar, corotational, neoHookean}
-use Rattle.stored.specs.Fields.{floatsAt, putF32, putFour, putMat3, putQuat, putFloats}
+use Rattle.floats.specs.Fields.{floatsAt, putF32, putFour, putMat3, putQuat, putFloats}
 
 -- a flag is stored as 0 or 1
 abbrev pub putFlag : List ℕ → ℕ → Bool → List ℕ

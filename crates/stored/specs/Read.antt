@@ -18,7 +18,7 @@ use Rattle.neo_hookean.specs.declared.Material.{Material}
 use Rattle.neo_hookean.specs.declared.Stiffness.{Stiffness}
 use Rattle.neo_hookean.specs.declared.NeoHookeanRow.{NeoHookeanRow}
 use Rattle.rows.specs.Row.{Row, Constraint, scalar, corotational, neoHookean}
-use Rattle.stored.specs.Fields.{fourAt, mat3At, quatAt, massesAt, idsAt, floatsAt}
+use Rattle.floats.specs.Fields.{fourAt, mat3At, quatAt, massesAt, idsAt, floatsAt}
 
 -- ---- scalar
 
