@@ -1,0 +1,2 @@
+-- Laws of what is put into a record. Assumes nothing.
+pub mod Lengths
