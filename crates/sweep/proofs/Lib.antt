@@ -1,5 +1,4 @@
 -- The steps and sweeps in place are the rules on lists of rows and points. Assumes nothing.
-pub mod ByKind
 pub mod Rooms
 pub mod Steps
 pub mod Sweeps

@@ -1,19 +1,20 @@
 -- A row that stands in a frame: where its bytes are, and what the code may read and write there. Assumes nothing.
-use Prim.Native.Nat.{ℕ, zero, suc, _+_, _*_, _≤_, _<_}
+use Prim.Native.Nat.{ℕ, zero, suc, _+_, _*_, _-_, _≤_, _<_}
 use mathlib.Core.Path.{_≡_, refl, sym, ap, _∙_, subst}
 use mathlib.Core.List.{List, [], _∷_, _++_, append-assoc}
 use native.Mathlib.Omega.{arith}
-use native.Mathlib.Nat.{add-zero}
-use lib.ListN.{length, length-append}
+use native.Mathlib.Nat.{add-zero, add-sub-cancel-left}
+use lib.ListN.{length, take, drop, length-append}
 use Rattle.bytes.specs.Bytes.{le16, le32, part}
 use Rattle.bytes.proofs.Parts.{part-middle, le16-middle, le32-middle}
 use Rattle.records.specs.Records.{recordLength, recordAt, flatten}
 use Rattle.stored.specs.Points.{Points}
 use Rattle.stored.specs.Sizes.{Alike, alike-length, alike-kind, Same, same-length}
+use Rattle.row.specs.Widths.{rowLength}
 use Rattle.points.specs.InFrame.{Sized, onPart}
 use Rattle.points.proofs.Bridge.{length-points, onPart-middle}
-use Rattle.sweep.specs.Laid.{rowLength, RowSized, At, Standing}
-use Rattle.sweep.proofs.ByKind.{long-row}
+use Rattle.sweep.specs.Laid.{RowSized, At, Standing}
+use Rattle.row.proofs.ByKind.{long-row}
 
 module _ {n off len : ℕ} {H : List ℕ} {ps : Points} {D b X s : List ℕ} (w : At n off len H ps D b X s) where
   regroup : (Y : List ℕ) → H ++ (flatten ps ++ (D ++ Y)) ≡ (H ++ (flatten ps ++ D)) ++ Y
@@ -71,6 +72,11 @@ room {n} {off} {len} {s} y =
       wide = subst (λ (b : List ℕ). rowLength (le16 b 4) ≤ length b) (sym (record-here w)) (w .row .wide);
       wide-part = subst (λ (b : List ℕ). rowLength (le16 b 4) ≤ length b) (sym (row-here w)) (w .row .wide);
     }
+
+-- the same of the part as it is lent
+pub lent-room : {n off len : ℕ} {s : List ℕ} → Standing n off len s
+    → rowLength (le16 (take (off + len - off) (drop off s)) 4) ≤ length (take (off + len - off) (drop off s))
+lent-room y = simp add-sub-cancel-left (room y .wide-part)
 
 -- ---- sizes stay
 

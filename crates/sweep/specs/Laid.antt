@@ -3,7 +3,6 @@ use Prim.Native.Nat.{ℕ, _+_, _*_, _≤_, _<_}
 use mathlib.Core.Path.{_≡_}
 use mathlib.Core.Bool.{Bool, cond}
 use mathlib.Core.List.{List, [], _∷_, _++_}
-use lib.Dec.{eqb}
 use lib.ListN.{length, replicate}
 use lib.Ieee.{Float}
 use Rattle.bytes.specs.Bytes.{le16}
@@ -12,12 +11,8 @@ use Rattle.relisting.specs.Sweep.{sweep, sweeps, run}
 use Rattle.stored.specs.Points.{Points, mainStep, resweepStep}
 use Rattle.stored.specs.Run.{lay}
 use Rattle.points.specs.InFrame.{Sized}
+use Rattle.row.specs.Widths.{rowLength}
 use Rattle.sweep.specs.declared.Turn.{Turn}
-
--- ---- rows by their kind: 3 scalar, 4 corotational, 5 neo-Hookean
-
-abbrev pub rowLength : ℕ → ℕ
-rowLength kind = cond (eqb kind 3) 182 (cond (eqb kind 4) 618 678)
 
 -- a row's record is as long as it says, and has room for the fields of its kind
 pub record RowSized (b : List ℕ) : Type 0 where

@@ -21,11 +21,12 @@ use Rattle.stored.specs.Read.{constraintOf, scalarOf, corotationalOf, neoHookea
 use Rattle.records.specs.Layout.{rowStrained}
 use Rattle.stored.specs.Put.{putFlag, putConstraint, warmConstraint, solveConstraint}
 use Rattle.stored.specs.Phases.{countedIds, namesAt, updateRow, warmRow, warmLoss, solveRow, solveLoss, updateScalar, warmScalar, solveScalar, updateCorotational, warmCorotational, solveCorotational, updateNeoHookean, warmNeoHookean, solveNeoHookean}
-use Rattle.sweep.specs.Laid.{rowLength}
+use Rattle.row.specs.Widths.{rowLength}
 
 -- ---- room
 
 pub long-row : (kind l : ℕ) → rowLength kind ≤ l → 182 ≤ l
+unfolding rowLength
 long-row kind l h = go (eqb kind 3) (eqb kind 4) h
   where
     go : (t u : Bool) → cond t 182 (cond u 618 678) ≤ l → 182 ≤ l
@@ -34,9 +35,11 @@ long-row kind l h = go (eqb kind 3) (eqb kind 4) h
     go false false h = omega arith
 
 pub room-4 : (kind l : ℕ) → (kind ≡ 3 → ⊥) → kind ≡ 4 → rowLength kind ≤ l → 618 ≤ l
+unfolding rowLength
 room-4 kind l a b h = subst (λ (m : ℕ). m ≤ l) (simp (ne-eqb kind 3 a, eq-eqb kind 4 b)) h
 
 pub room-5 : (kind l : ℕ) → (kind ≡ 3 → ⊥) → (kind ≡ 4 → ⊥) → rowLength kind ≤ l → 678 ≤ l
+unfolding rowLength
 room-5 kind l a b h = subst (λ (m : ℕ). m ≤ l) (simp (ne-eqb kind 3 a, ne-eqb kind 4 b)) h
 
 -- ---- names
