@@ -1,5 +1,5 @@
 -- DEMAND 3: an accepted frame and a relisting of it are run alike. Assumes nothing.
-use Prim.Native.Nat.{ℕ, _≤_, _<_}
+use Prim.Native.Nat.{ℕ, _<_}
 use mathlib.Core.Path.{_≡_, refl, sym, ap, _∙_}
 use mathlib.Core.List.{List, []}
 use native.Mathlib.Omega.{arith}
@@ -8,14 +8,14 @@ use lib.ListN.{length, getElem?}
 use Rattle.bytes.specs.Bytes.{le32}
 use Rattle.relisting.specs.Build.{points-equal}
 use Rattle.relisting.specs.Sweep.{run}
-use Rattle.relisting.specs.Relist.{Pairing, relisted-run}
+use Rattle.relisting.specs.Relist.{relisted-run}
 use Rattle.records.specs.Answers.{accepted}
 use Rattle.clash.specs.Clash.{overflow}
 use Rattle.frame.specs.Frames.{countN, modeOf, resweepsOf, head, points, rows}
 use Rattle.frame.specs.Check.{checkOf}
 use Rattle.acceptance.specs.Whole.{row, Whole}
 use Rattle.acceptance.proofs.Wholes.{accepted-whole, in-range}
-use Rattle.stored.specs.Run.{updates, warms, warmCoefficient, leastStrain, swept, leaves}
+use Rattle.stored.specs.Run.{updates, warms, warmCoefficient, leastStrain, swept}
 use Rattle.stored.specs.Points.{mainStep, resweepStep}
 use Rattle.stored.specs.Local.{Sheet, main-local, resweep-local}
 use Rattle.demand.specs.Relisted.{Relisting}

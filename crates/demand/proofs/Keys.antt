@@ -1,15 +1,15 @@
 -- Acceptance and relistings of frames, as the proof over any local steps asks for them. check's key of a row has the ids that it names, and that of the sweeps has four places, with 0xFFFFFFFF for one that is not named: of a point in range they say the same. Assumes nothing.
 use Prim.Native.Nat.{ℕ, zero, suc, _≤_, _<_}
-use mathlib.Core.Path.{_≡_, refl, sym, ap, _∙_, subst}
+use mathlib.Core.Path.{_≡_, refl, sym, _∙_, subst}
 use mathlib.Core.Bool.{Bool, true, false, cond}
-use mathlib.Core.Logic.{_⊎_, inl, inr, _≢_}
+use mathlib.Core.Logic.{inl, inr, _≢_}
 use mathlib.Core.List.{List, [], _∷_, List·Memᴰ, List·Memᴰ·head, List·Memᴰ·tail, List·Memᴰ·cases-cons, List·Memᴰ·not-nil}
 use native.Mathlib.Omega.{arith}
 use native.Mathlib.Nat.{not-suc-le-zero, le-of-suc-le-suc}
 use lib.Dec.{ltb, eqb}
 use lib.ListN.{length, getD, take}
 use borrow.Author.Tests.{ltb-true}
-use Rattle.bytes.specs.Bytes.{le16, le32}
+use Rattle.bytes.specs.Bytes.{le16}
 use Rattle.relisting.specs.Relist as any
 use Rattle.places.specs.declared.Ids.{Ids}
 use Rattle.floats.specs.Fields.{idsAt}
@@ -18,10 +18,9 @@ use Rattle.rows.specs.Row.{nobody, counted, places, countedPlaces, keepIf, inRa
 use Rattle.rows.specs.Row as rows
 use Rattle.clash.specs.Clash as clash
 use Rattle.clash.specs.Clash.{overflow}
-use Rattle.frame.specs.Frames.{head, points, countN}
 use Rattle.frame.specs.Frames as frame
 use Rattle.acceptance.specs.Whole.{row, Chain, Free}
-use Rattle.acceptance.proofs.Pairs.{Apart, keyAt, free-apart, rising-at}
+use Rattle.acceptance.proofs.Pairs.{Apart, free-apart, rising-at}
 use Rattle.stored.specs.Read.{rowOf, constraintOf}
 use Rattle.stored.specs.Kept.{names-by}
 use Rattle.stored.specs.Local.{Sheet}

@@ -3,3 +3,4 @@ pub mod Relistings
 pub mod Keys
 pub mod Laid
 pub mod Alike
+pub mod Examples
