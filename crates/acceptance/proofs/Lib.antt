@@ -2,7 +2,6 @@
 pub mod Parsing
 pub mod Wholes
 pub mod Pairs
-pub mod Relistings
 pub mod Numbers
 pub mod Reaching
 pub mod Meets

@@ -1,17 +1,16 @@
 -- A step leaves every record as long as it was, with the same length field and kind: what a run leaves is parted as the frame before it was. Assumes nothing.
 use Prim.Native.Nat.{ℕ, zero, suc, _+_, _*_, _<_}
 use mathlib.Core.Path.{_≡_, refl, sym, ap, _∙_}
-use mathlib.Core.Logic.{_⊎_, inl, inr}
+use mathlib.Core.Logic.{inl}
 use mathlib.Core.Bool.{Bool, true, false, cond}
 use mathlib.Core.Option.{Option}
 use mathlib.Core.List.{List, [], _∷_}
 use native.Mathlib.Omega.{arith}
-use native.Mathlib.Nat.{not-suc-le-zero, le-of-suc-le-suc}
 use lib.Ieee.{Float}
 use lib.ListN.{length, getD, replicate}
 use Rattle.loops.specs.Loops.{upTo}
 use Rattle.real.specs.Float.{at}
-use Rattle.bytes.specs.Bytes.{le16, le32, f32Bytes, bytes2, patch}
+use Rattle.bytes.specs.Bytes.{le16, le32, f32Bytes, bytes2}
 use Rattle.bytes.proofs.Patch.{length-patch, sets-below}
 use Rattle.relisting.specs.Build.{fetch, alter, alters, _then_, pick, choose, nothing}
 use Rattle.relisting.specs.Sweep.{sweep, sweeps, run}
@@ -27,7 +26,6 @@ use Rattle.scalar.specs.declared.SoftScalarConstraint.{SoftScalarConstraint}
 use Rattle.cell.specs.declared.Pose.{Pose}
 use Rattle.cell.specs.declared.Impulses.{Impulses}
 use Rattle.corotational.specs.declared.Volume.{Volume}
-use Rattle.corotational.specs.declared.CorotationalRow.{CorotationalRow}
 use Rattle.neo_hookean.specs.declared.NeoHookeanRow.{NeoHookeanRow}
 use Rattle.records.specs.Layout as at
 use Rattle.rows.specs.Row.{Row, keyOf, Constraint, scalar, corotational, neoHookean}

@@ -7,18 +7,18 @@ use native.Mathlib.Decide.{decLt}
 use lib.ListN.{length, take, length-append}
 use lib.Seq.{take-at}
 use Rattle.bytes.specs.Bytes.{le32}
-use Rattle.bytes.proofs.Parts.{le32-part}
 use Rattle.records.specs.declared.Due.the-variants.{Head, Point, Row}
 use Rattle.records.specs.Answers.{accepted}
 use Rattle.records.specs.Records.{records, endOf, flatten}
 use Rattle.clash.specs.Clash.{Key, keyOf}
 use Rattle.frame.specs.Frames.{countN, countR, rowsAt, head, points, rows}
 use Rattle.frame.specs.Check.{checkOf}
-use Rattle.acceptance.specs.Whole.{Good, Chain, Free, Whole}
-use Rattle.acceptance.specs.Relisted.{row, Relisting}
+use Rattle.acceptance.specs.Whole.{row, Good, Chain, Free, Whole}
+use Rattle.demand.specs.Relisted.{Relisting}
 use Rattle.acceptance.proofs.Parsing.{build, as-many}
 use Rattle.acceptance.proofs.Wholes.{accepted-whole, whole-accepted, head-length}
 use Rattle.acceptance.proofs.Pairs.{Apart, keyAt, free-apart, apart-free, good-at, rising-at, chain-of}
+use Rattle.demand.proofs.Laid.{heads-32}
 
 -- that two rows do not clash goes both ways
 apart-sym : (N : ℕ) (q k : Key) → Apart N q k → Apart N k q
@@ -61,20 +61,17 @@ module _ (A B : List ℕ) (bs : List (List ℕ)) (σ τ : ℕ → ℕ) (w : Whol
   long : length (head A) ≡ 26
   long = head-length (head A) (w .good-head)
 
-  headB : head B ≡ head A
+  pub headB : head B ≡ head A
   headB = ap (take 26) (R .made) ∙ take-at (head A) (flatten (points A) ++ flatten bs) 26 long
 
-  head-32 : (s : List ℕ) (k : ℕ) → k + 4 ≤ 26 → le32 (head s) k ≡ le32 s k
-  head-32 s k h = le32-part s 0 26 k h ∙ ap (le32 s) (omega arith)
-
-  same : (k : ℕ) → k + 4 ≤ 26 → le32 B k ≡ le32 A k
-  same k h = sym (head-32 B k h) ∙ ap (λ (l : List ℕ). le32 l k) headB ∙ head-32 A k h
+  same-32 : (k : ℕ) → k + 4 ≤ 26 → le32 B k ≡ le32 A k
+  same-32 = heads-32 B A headB
 
   many : length (points A) ≡ countN B
-  many = as-many (countN A) A 26 ∙ sym (same 6 (omega arith))
+  many = as-many (countN A) A 26 ∙ sym (same-32 6 (omega arith))
 
   manyR : length bs ≡ countR B
-  manyR = R .as-many ∙ as-many (countR A) A (rowsAt A) ∙ sym (same 10 (omega arith))
+  manyR = R .as-many ∙ as-many (countR A) A (rowsAt A) ∙ sym (same-32 10 (omega arith))
 
   pub points-same : points B ≡ points A
   points-same = ap (λ (k : ℕ). records k B 26) (sym many) ∙ build Point (points A) (head A) (flatten bs) B 26 0 (R .made) long (w .good-points) .same
@@ -95,7 +92,7 @@ module _ (A B : List ℕ) (bs : List (List ℕ)) (σ τ : ℕ → ℕ) (w : Whol
     good-head = subst (Good Head 0) (sym headB) (w .good-head);
     good-points = subst (Chain Point 0) (sym points-same) (w .good-points);
     good-rows = subst (Chain Row 0) (sym rows-same) good;
-    free = subst₂ (λ (n : ℕ) (l : List (List ℕ)). Free n [] l) (sym (same 6 (omega arith))) (sym rows-same) free;
+    free = subst₂ (λ (n : ℕ) (l : List (List ℕ)). Free n [] l) (sym (same-32 6 (omega arith))) (sym rows-same) free;
   }
 
 -- A RELISTING OF AN ACCEPTED FRAME IS ACCEPTED
