@@ -1,8 +1,8 @@
--- `neo_hookean::hessian::gradient` meets its contract. Its calls are the definition's. Assumes nothing.
+-- `energy::hessian::gradient` meets its contract. Its calls are the definition's. Assumes nothing.
 use borrow.Author.Needs.{needs}
-use Rattle.neo_hookean.specs.Hessian.{gradient}
-use Rattle.neo_hookean.proofs.hessian.gradient.Statement.{statement}
-use Rattle.neo_hookean.proofs.hessian.gradient.Tie as tie
+use Rattle.energy.specs.Hessian.{gradient}
+use Rattle.energy.proofs.hessian.gradient.Statement.{statement}
+use Rattle.energy.proofs.hessian.gradient.Tie as tie
 
 identity-requires : tie.Need-identity-requires
 identity-requires c κs = search needs

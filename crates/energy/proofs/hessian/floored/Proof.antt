@@ -1,8 +1,8 @@
--- `neo_hookean::hessian::floored` meets its contract. Its calls are the definition's. Assumes nothing.
+-- `energy::hessian::floored` meets its contract. Its calls are the definition's. Assumes nothing.
 use borrow.Author.Needs.{needs}
-use Rattle.neo_hookean.specs.Hessian.{floored}
-use Rattle.neo_hookean.proofs.hessian.floored.Statement.{statement}
-use Rattle.neo_hookean.proofs.hessian.floored.Tie as tie
+use Rattle.energy.specs.Hessian.{floored}
+use Rattle.energy.proofs.hessian.floored.Statement.{statement}
+use Rattle.energy.proofs.hessian.floored.Tie as tie
 
 element-sum-requires : tie.Need-element-sum-requires
 element-sum-requires c κs = search needs

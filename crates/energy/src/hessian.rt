@@ -1,6 +1,6 @@
 // The gradient of the neo-Hookean energy and its tangent stiffness.
 ghost use mathlib.Core.Path.{_≡_};
-ghost use Rattle.neo_hookean.specs.Hessian as spec;
+ghost use Rattle.energy.specs.Hessian as spec;
 use crate::Energy;
 use cell::tensor::strain_matrix;
 use cell::tensor::strain_rows_dual;

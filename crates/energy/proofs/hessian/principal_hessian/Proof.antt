@@ -1,9 +1,9 @@
--- `neo_hookean::hessian::principal_hessian` meets its contract. Its calls are the definition's. Assumes nothing.
+-- `energy::hessian::principal_hessian` meets its contract. Its calls are the definition's. Assumes nothing.
 use borrow.Author.Needs.{needs}
 use mathlib.Core.Path.{refl}
-use Rattle.neo_hookean.specs.Hessian.{principalHessian}
-use Rattle.neo_hookean.proofs.hessian.principal_hessian.Statement.{statement}
-use Rattle.neo_hookean.proofs.hessian.principal_hessian.Tie as tie
+use Rattle.energy.specs.Hessian.{principalHessian}
+use Rattle.energy.proofs.hessian.principal_hessian.Statement.{statement}
+use Rattle.energy.proofs.hessian.principal_hessian.Tie as tie
 
 areas-requires : tie.Need-areas-requires
 areas-requires c κs = search needs

@@ -1,8 +1,8 @@
--- `neo_hookean::hessian::hessian` meets its contract. Its calls are the definition's. Assumes nothing.
+-- `energy::hessian::hessian` meets its contract. Its calls are the definition's. Assumes nothing.
 use borrow.Author.Needs.{needs}
-use Rattle.neo_hookean.specs.Hessian.{hessian}
-use Rattle.neo_hookean.proofs.hessian.hessian.Statement.{statement}
-use Rattle.neo_hookean.proofs.hessian.hessian.Tie as tie
+use Rattle.energy.specs.Hessian.{hessian}
+use Rattle.energy.proofs.hessian.hessian.Statement.{statement}
+use Rattle.energy.proofs.hessian.hessian.Tie as tie
 
 symmetric-eigen-requires : tie.Need-symmetric-eigen-requires
 symmetric-eigen-requires c κs = search needs

@@ -1,8 +1,8 @@
--- `neo_hookean::hessian::mode_of` meets its contract. Its calls are the definition's. Assumes nothing.
+-- `energy::hessian::mode_of` meets its contract. Its calls are the definition's. Assumes nothing.
 use borrow.Author.Needs.{needs}
-use Rattle.neo_hookean.specs.Hessian.{modeOf}
-use Rattle.neo_hookean.proofs.hessian.mode_of.Statement.{statement}
-use Rattle.neo_hookean.proofs.hessian.mode_of.Tie as tie
+use Rattle.energy.specs.Hessian.{modeOf}
+use Rattle.energy.proofs.hessian.mode_of.Statement.{statement}
+use Rattle.energy.proofs.hessian.mode_of.Tie as tie
 
 scale6-requires : tie.Need-scale6-requires
 scale6-requires c κs = search needs

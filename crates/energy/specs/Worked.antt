@@ -10,7 +10,7 @@ use Rattle.vector.specs.Vector as v
 use Rattle.vector.specs.Matrix.{identity, addMat, scaleMat, determinant}
 use Rattle.linalg.specs.Products.{cofactor}
 use Rattle.cell.specs.Strain.{strainMatrix, strainRowsDual}
-use Rattle.neo_hookean.specs.Hessian.{gradient}
+use Rattle.energy.specs.Hessian.{gradient}
 
 abbrev zeros : List Float
 zeros = replicate 6 f0

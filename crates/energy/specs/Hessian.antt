@@ -15,7 +15,7 @@ use Rattle.linalg.specs.Products.{cofactor, outerProduct}
 use Rattle.linalg.specs.Eigen.{symmetricEigen}
 use Rattle.linalg.specs.declared.Eigen.{Eigen}
 use Rattle.cell.specs.Strain.{strainMatrix, strainRowsDual}
-use Rattle.neo_hookean.specs.declared.Energy.{Energy}
+use Rattle.energy.specs.declared.Energy.{Energy}
 
 -- S = I + ε, κ = λ' (det S - 1) - μ, and the gradient μ S + κ cof S
 unfoldable pub gradient : Float → Float → List Float → Energy

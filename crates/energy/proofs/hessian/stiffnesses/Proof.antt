@@ -1,8 +1,8 @@
--- `neo_hookean::hessian::stiffnesses` meets its contract. Its calls are the definition's. Assumes nothing.
+-- `energy::hessian::stiffnesses` meets its contract. Its calls are the definition's. Assumes nothing.
 use borrow.Author.Needs.{needs}
-use Rattle.neo_hookean.specs.Hessian.{stiffnesses}
-use Rattle.neo_hookean.proofs.hessian.stiffnesses.Statement.{statement}
-use Rattle.neo_hookean.proofs.hessian.stiffnesses.Tie as tie
+use Rattle.energy.specs.Hessian.{stiffnesses}
+use Rattle.energy.proofs.hessian.stiffnesses.Statement.{statement}
+use Rattle.energy.proofs.hessian.stiffnesses.Tie as tie
 
 floored-requires : tie.Need-floored-requires
 floored-requires c κs = search needs

@@ -1,8 +1,8 @@
--- `neo_hookean::hessian::with_flip` meets its contract. Its calls are the definition's. Assumes nothing.
+-- `energy::hessian::with_flip` meets its contract. Its calls are the definition's. Assumes nothing.
 use borrow.Author.Needs.{needs}
-use Rattle.neo_hookean.specs.Hessian.{withFlip}
-use Rattle.neo_hookean.proofs.hessian.with_flip.Statement.{statement}
-use Rattle.neo_hookean.proofs.hessian.with_flip.Tie as tie
+use Rattle.energy.specs.Hessian.{withFlip}
+use Rattle.energy.proofs.hessian.with_flip.Statement.{statement}
+use Rattle.energy.proofs.hessian.with_flip.Tie as tie
 
 outer-product-requires : tie.Need-outer-product-requires
 outer-product-requires c κs = search needs

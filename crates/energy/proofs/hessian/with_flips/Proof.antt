@@ -1,8 +1,8 @@
--- `neo_hookean::hessian::with_flips` meets its contract. Its calls are the definition's. Assumes nothing.
+-- `energy::hessian::with_flips` meets its contract. Its calls are the definition's. Assumes nothing.
 use borrow.Author.Needs.{needs}
-use Rattle.neo_hookean.specs.Hessian.{withFlips}
-use Rattle.neo_hookean.proofs.hessian.with_flips.Statement.{statement}
-use Rattle.neo_hookean.proofs.hessian.with_flips.Tie as tie
+use Rattle.energy.specs.Hessian.{withFlips}
+use Rattle.energy.proofs.hessian.with_flips.Statement.{statement}
+use Rattle.energy.proofs.hessian.with_flips.Tie as tie
 
 root-requires : tie.Need-root-requires
 root-requires c κs = search needs

@@ -1,8 +1,8 @@
--- `neo_hookean::hessian::scaling` meets its contract. Its calls are the definition's. Assumes nothing.
+-- `energy::hessian::scaling` meets its contract. Its calls are the definition's. Assumes nothing.
 use borrow.Author.Needs.{needs}
-use Rattle.neo_hookean.specs.Hessian.{scaling}
-use Rattle.neo_hookean.proofs.hessian.scaling.Statement.{statement}
-use Rattle.neo_hookean.proofs.hessian.scaling.Tie as tie
+use Rattle.energy.specs.Hessian.{scaling}
+use Rattle.energy.proofs.hessian.scaling.Statement.{statement}
+use Rattle.energy.proofs.hessian.scaling.Tie as tie
 
 outer-product-requires : tie.Need-outer-product-requires
 outer-product-requires c κs = search needs

@@ -1,9 +1,9 @@
--- `neo_hookean::hessian::with_scaling` meets its contract. Its calls are the definition's. Assumes nothing.
+-- `energy::hessian::with_scaling` meets its contract. Its calls are the definition's. Assumes nothing.
 use borrow.Author.Needs.{needs}
 use mathlib.Core.Path.{refl}
-use Rattle.neo_hookean.specs.Hessian.{withScaling}
-use Rattle.neo_hookean.proofs.hessian.with_scaling.Statement.{statement}
-use Rattle.neo_hookean.proofs.hessian.with_scaling.Tie as tie
+use Rattle.energy.specs.Hessian.{withScaling}
+use Rattle.energy.proofs.hessian.with_scaling.Statement.{statement}
+use Rattle.energy.proofs.hessian.with_scaling.Tie as tie
 
 scaling-requires : tie.Need-scaling-requires
 scaling-requires c κs = search needs
