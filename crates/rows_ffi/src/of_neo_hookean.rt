@@ -1,4 +1,4 @@
-// The exports of the crate `neo_hookean`.
+// The exports of the crates `energy` and `neo_hookean`.
 use cell::Solved;
 use energy::Energy;
 use neo_hookean::NeoHookeanRow;
