@@ -50,10 +50,10 @@ pub fn update_row(b: &mut [u8], held: Holds, least: f32)
         return;
     }
     if kind == 4 {
-        scalar_record::update_scalar(b, held, least);
+        corotational_record::update_corotational(b, held, least);
         return;
     }
-    scalar_record::update_scalar(b, held, least);
+    neo_hookean_record::update_neo_hookean(b, held, least);
 }
 
 // What each place is to lose.
@@ -66,9 +66,9 @@ pub fn warm_row(b: &mut [u8], coeff: f32) -> Four
         return scalar_record::warm_scalar(b, coeff);
     }
     if kind == 4 {
-        return scalar_record::warm_scalar(b, coeff);
+        return corotational_record::warm_corotational(b, coeff);
     }
-    scalar_record::warm_scalar(b, coeff)
+    neo_hookean_record::warm_neo_hookean(b, coeff)
 }
 
 pub fn solve_row(b: &mut [u8], vel: Holds) -> Four
@@ -80,7 +80,7 @@ pub fn solve_row(b: &mut [u8], vel: Holds) -> Four
         return scalar_record::solve_scalar(b, vel);
     }
     if kind == 4 {
-        return scalar_record::solve_scalar(b, vel);
+        return corotational_record::solve_corotational(b, vel);
     }
-    scalar_record::solve_scalar(b, vel)
+    neo_hookean_record::solve_neo_hookean(b, vel)
 }
