@@ -10,7 +10,7 @@ use Rattle.cell.specs.Cell.{updatePose, isStrained}
 use Rattle.cell.specs.declared.Pose.{Pose}
 use Rattle.neo_hookean.specs.NeoHookean.{isFresh, renewed, updateBlock}
 use Rattle.neo_hookean.specs.Row.{update}
-use Rattle.neo_hookean.specs.declared.Energy.{Energy}
+use Rattle.energy.specs.declared.Energy.{Energy}
 use Rattle.neo_hookean.specs.declared.Block.{Block}
 use Rattle.floats.specs.Fields.{floatsAt, putFloats}
 use Rattle.stored.specs.Read.{cellOf, poseOf, materialOf, stiffnessOf, neoHookeanOf}

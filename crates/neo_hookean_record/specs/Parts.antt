@@ -7,9 +7,9 @@ use Rattle.bytes.specs.Bytes.{f32At}
 use Rattle.strain.specs.Six.{scale6}
 use Rattle.records.specs.Layout as at
 use Rattle.cell.specs.declared.Pose.{Pose}
-use Rattle.neo_hookean.specs.Hessian.{gradient}
+use Rattle.energy.specs.Hessian.{gradient}
 use Rattle.neo_hookean.specs.NeoHookean.{isFresh, renewed}
-use Rattle.neo_hookean.specs.declared.Energy.{Energy}
+use Rattle.energy.specs.declared.Energy.{Energy}
 use Rattle.neo_hookean.specs.declared.Block.{Block}
 use Rattle.floats.specs.Fields.{fourAt, massesAt, floatsAt, putFloats}
 use Rattle.stored.specs.Read.{materialOf}

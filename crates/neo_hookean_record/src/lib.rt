@@ -33,7 +33,7 @@ fn energy_anew(b: &[u8], strain: &[f32; 6]) -> Energy
 {
     let mu = get_f32(b, layout::NEO_MU);
     let lambda = get_f32(b, layout::NEO_LAMBDA);
-    neo_hookean::hessian::gradient(mu, lambda, strain)
+    energy::hessian::gradient(mu, lambda, strain)
 }
 
 fn dt_grad_anew(b: &[u8], e: Energy) -> [f32; 6]
