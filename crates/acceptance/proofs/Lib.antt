@@ -6,4 +6,3 @@ pub mod Numbers
 pub mod Reaching
 pub mod Meets
 pub mod Givens
-pub mod Examples

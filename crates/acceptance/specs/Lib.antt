@@ -1,4 +1,3 @@
 -- What check's answers say of a frame. Assumes nothing.
 pub mod Whole
 pub mod Given
-pub mod Worked
