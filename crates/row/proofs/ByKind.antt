@@ -34,13 +34,13 @@ long-row kind l h = go (eqb kind 3) (eqb kind 4) h
     go false true h = omega arith
     go false false h = omega arith
 
-pub room-4 : (kind l : ℕ) → (kind ≡ 3 → ⊥) → kind ≡ 4 → rowLength kind ≤ l → 618 ≤ l
+pub room-4 : (k kind l : ℕ) → kind ≡ k → (kind ≡ 3 → ⊥) → kind ≡ 4 → rowLength k ≤ l → 618 ≤ l
 unfolding rowLength
-room-4 kind l a b h = subst (λ (m : ℕ). m ≤ l) (simp (ne-eqb kind 3 a, eq-eqb kind 4 b)) h
+room-4 k kind l e a b h = subst (λ (m : ℕ). m ≤ l) (simp (ne-eqb k 3 (λ z. a (e ∙ z)), eq-eqb k 4 (sym e ∙ b))) h
 
-pub room-5 : (kind l : ℕ) → (kind ≡ 3 → ⊥) → (kind ≡ 4 → ⊥) → rowLength kind ≤ l → 678 ≤ l
+pub room-5 : (k kind l : ℕ) → kind ≡ k → (kind ≡ 3 → ⊥) → (kind ≡ 4 → ⊥) → rowLength k ≤ l → 678 ≤ l
 unfolding rowLength
-room-5 kind l a b h = subst (λ (m : ℕ). m ≤ l) (simp (ne-eqb kind 3 a, ne-eqb kind 4 b)) h
+room-5 k kind l e a b h = subst (λ (m : ℕ). m ≤ l) (simp (ne-eqb k 3 (λ z. a (e ∙ z)), ne-eqb k 4 (λ z. b (e ∙ z)))) h
 
 -- ---- names
 

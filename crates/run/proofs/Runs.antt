@@ -92,3 +92,8 @@ module _ (s : List ℕ) (a : Answer) (e : a ≡ checkOf s) where
   pub not-run : (a .number ≡ 0 → ⊥) → s ≡ leaves s
   unfolding leaves
   not-run z = simp (ne-eqb (checkOf s .number) 0 (λ q. z (ap (λ (x : Answer). x .number) e ∙ q)))
+
+-- the main sweep is no resweep
+pub main-first : (s : List ℕ) (t : Turn) → t ≡ mainTurn s → t .resweep ≡ false
+unfolding mainTurn
+main-first s t e = ap (λ (x : Turn). x .resweep) e

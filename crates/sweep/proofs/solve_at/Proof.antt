@@ -21,8 +21,8 @@ use Rattle.sweep.proofs.solve_at.Lts as lts
 use Rattle.points.proofs.take.Reads as take-reads
 use Rattle.points.proofs.velocities.Reads as velocities-reads
 use Rattle.records.proofs.record_at.Reads as record-at-reads
-use Rattle.sweep.proofs.row.names_at.Reads as names-at-reads
-use Rattle.sweep.proofs.row.solve_row.Reads as solve-row-reads
+use Rattle.row.proofs.names_at.Reads as names-at-reads
+use Rattle.row.proofs.solve_row.Reads as solve-row-reads
 
 record-at-requires : tie.Need-record-at-requires
 record-at-requires c κs = omega (arith, room (c .before .before .pre) .said)

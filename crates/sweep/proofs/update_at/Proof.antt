@@ -17,8 +17,8 @@ use Rattle.sweep.proofs.update_at.Reads as reads
 use Rattle.sweep.proofs.update_at.Lts as lts
 use Rattle.points.proofs.positions.Reads as positions-reads
 use Rattle.records.proofs.record_at.Reads as record-at-reads
-use Rattle.sweep.proofs.row.names_at.Reads as names-at-reads
-use Rattle.sweep.proofs.row.update_row.Reads as update-row-reads
+use Rattle.row.proofs.names_at.Reads as names-at-reads
+use Rattle.row.proofs.update_row.Reads as update-row-reads
 
 record-at-requires : tie.Need-record-at-requires
 record-at-requires c κs = omega (arith, room (c .before .before .pre) .said)

@@ -20,8 +20,8 @@ use Rattle.sweep.proofs.warm_at.Reads as reads
 use Rattle.sweep.proofs.warm_at.Lts as lts
 use Rattle.points.proofs.take.Reads as take-reads
 use Rattle.records.proofs.record_at.Reads as record-at-reads
-use Rattle.sweep.proofs.row.names_at.Reads as names-at-reads
-use Rattle.sweep.proofs.row.warm_row.Reads as warm-row-reads
+use Rattle.row.proofs.names_at.Reads as names-at-reads
+use Rattle.row.proofs.warm_row.Reads as warm-row-reads
 
 record-at-requires : tie.Need-record-at-requires
 record-at-requires c κs = omega (arith, room (c .before .before .pre) .said)
