@@ -1,5 +1,5 @@
 -- WHAT FORMRUN WRITES for the bytes that it read. Assumes nothing.
-use Prim.Native.Nat.{ℕ, zero, suc, _+_, _/_, _%_}
+use Prim.Native.Nat.{ℕ, zero, suc, _+_, _/_, _%_, _≤_}
 use mathlib.Core.Path.{_≡_}
 use mathlib.Core.Bool.{cond}
 use mathlib.Core.List.{List, [], _∷_, _++_}
@@ -7,6 +7,7 @@ use lib.ListN.{length, take}
 use lib.Dec.{ltb, eqb}
 use Rattle.records.specs.declared.Answer.{Answer}
 use Rattle.frame.specs.Check.{checkOf}
+use Rattle.stored.specs.Run.{leaves}
 
 -- n in decimal, as bytes, with at most so many digits: the digits before the last, and the last; no zeros in front
 unfoldable pub decimalIn : ℕ → ℕ → List ℕ
@@ -34,13 +35,12 @@ newline = 10 ∷ []
 unfoldable pub refusal : Answer → List ℕ
 refusal a = refusedWord ++ (decimal (a .number) ++ (atWord ++ (decimal (a .place) ++ newline)))
 
-abbrev pub after : List ℕ → List ℕ
-after s = s
-
+-- more than 65,536 bytes are too long for a frame; a frame that check accepts is written as the run leaves it; one that it refuses gives the line
 unfoldable pub outputOf : List ℕ → List ℕ
-outputOf s = cond (ltb 65536 (length s)) tooLong (cond (eqb (checkOf s .number) 0) (after s) (refusal (checkOf s)))
+outputOf s = cond (ltb 65536 (length s)) tooLong (cond (eqb (checkOf s .number) 0) (leaves s) (refusal (checkOf s)))
 
 -- text stands in s′ behind the first `at` bytes of s, and ends at r
 pub record Added (text : List ℕ) (at : ℕ) (s : List ℕ) (r : ℕ) (s′ : List ℕ) : Type 0 where
   pub ends : r ≡ at + length text
+  pub within : r ≤ length s′
   pub holds : take r s′ ≡ take at s ++ text

@@ -91,7 +91,7 @@ fn answer(buf: &mut [u8], len: usize) -> usize
     if 65536 < len {
         return put(buf, 0, b"too long\n");
     }
-    let a = frame::check(&buf[..len]);
+    let a = run::run(&mut buf[..len]);
     if a.number == 0 {
         return len;
     }

@@ -10,9 +10,10 @@ use Rattle.formrun.specs.Output.{Added}
 use Rattle.formrun.proofs.put.Statement.{statement}
 use Rattle.formrun.proofs.put.Tie as tie
 
-pasted : (s text s′ : List ℕ) (at i : ℕ) → at + length text ≤ length s → s′ ≡ paste s at text i → i ≡ length text → Added text at s (at + length text) s′
-pasted s text s′ at i room e all = record {
+pasted : (s text s′ : List ℕ) (at i : ℕ) → at + length text ≤ length s → length s′ ≡ length s → s′ ≡ paste s at text i → i ≡ length text → Added text at s (at + length text) s′
+pasted s text s′ at i room same e all = record {
   ends = refl;
+  within = omega arith;
   holds = ap (take (at + length text)) (e ∙ ap (paste s at text) all)
       ∙ take-paste s at text (length text) (omega arith) (omega arith)
       ∙ ap (λ (l : List ℕ). take at s ++ l) (take-length text)
@@ -63,7 +64,7 @@ returns : tie.Need-returns Inv-loop μ-loop
 returns c =
     let l = c .before .loop in
     let a = c .before .before .args in
-    pasted (a .buf .now) (a .text .now) (l .buf) (a .at) (l .i) (c .before .before .pre) (l .inv .2) (omega arith)
+    pasted (a .buf .now) (a .text .now) (l .buf) (a .at) (l .i) (c .before .before .pre) (l .inv .0) (l .inv .2) (omega arith)
 
 pub put-spec : {M : Type 1} → statement M
 put-spec =

@@ -1,3 +1,10 @@
+-- `formrun::read_input` meets its contract: what has been read fits the buffer, and each turn reads more. Assumes nothing.
+use mathlib.Core.Path.{_≡_, refl, subst}
+use Prim.Native.Nat.{ℕ, _+_, _-_, _≤_, _<_, zero-le}
+use native.Mathlib.Omega.{arith}
+use lib.ListN.{length}
+use borrow.Author.Needs.{needs}
+use Rattle.formrun.specs.Reading.{Within}
 use Rattle.formrun.proofs.read_input.Statement.{statement}
 use Rattle.formrun.proofs.read_input.Tie as tie
 use Rattle.formrun.proofs.read_input.Reads as reads
@@ -5,62 +12,55 @@ use Rattle.formrun.proofs.read_input.Lts as lts
 use Rattle.formrun.proofs.read_more.Reads as read-more-reads
 
 abbrev Inv-loop : tie.InvT-loop
-Inv-loop buf₀ done₀ buf done = ?
+Inv-loop buf₀ done₀ buf done = (length buf ≡ length buf₀) × (done ≤ length buf₀)
 
 abbrev μ-loop : tie.MeasureT-loop
-μ-loop buf₀ done₀ buf done = ?
+μ-loop buf₀ done₀ buf done = length buf₀ - done
 
--- src/main.rt:40:5
+-- so many bytes more fit
+more : (c : tie.Else1 Inv-loop μ-loop) → c .before .before .n .given .0 .0 ≤ length (c .before .before .before .before .before .before .before .before .before .loop .buf) - c .before .before .before .before .before .before .before .before .before .loop .done
+more c =
+    let l = c .before .before .before .before .before .before .before .before .before .loop in
+    subst (Within (length (l .buf) - l .done)) (c .before .before .n .given .1) (c .before .before .before .before .before .before .read-more .ensures .0)
+
 loop-holds : tie.Need-loop-holds Inv-loop μ-loop
-loop-holds c = ?
+loop-holds c = (refl, zero-le)
 
--- src/main.rt:41:31
 read-more-requires : tie.Need-read-more-requires Inv-loop μ-loop
-read-more-requires c κs = ?
+read-more-requires c κs = omega arith
 
--- src/main.rt:41:26
 enum-known-n : tie.Need-enum-known-n Inv-loop μ-loop
-enum-known-n c = ?
+enum-known-n c = search needs
 
--- src/main.rt:42:13
 enum-told : tie.Need-enum-told Inv-loop μ-loop
-enum-told c = ?
+enum-told c = search needs
 
--- src/main.rt:42:13
 same-length : tie.Need-same-length Inv-loop μ-loop
-same-length c = ?
+same-length c = search needs
 
--- src/main.rt:42:13
 returns : tie.Need-returns Inv-loop μ-loop
-returns c = ?
+returns c = tt
 
--- src/main.rt:45:13
 same-length-2 : tie.Need-same-length-2 Inv-loop μ-loop
-same-length-2 c = ?
+same-length-2 c = search needs
 
--- src/main.rt:45:13
 returns-2 : tie.Need-returns-2 Inv-loop μ-loop
-returns-2 c = ?
+returns-2 c = omega arith
 
--- src/main.rt:47:16
 add-done : tie.Need-add-done Inv-loop μ-loop
-add-done c = ?
+add-done c = omega (arith, more c)
 
--- src/main.rt:40:5
 loop-less : tie.Need-loop-less Inv-loop μ-loop
-loop-less c = ?
+loop-less c = omega (arith, more c)
 
--- src/main.rt:40:5
 loop-again : tie.Need-loop-again Inv-loop μ-loop
-loop-again c = ?
+loop-again c = (search needs, omega (arith, more c))
 
--- src/main.rt:36:1
 same-length-3 : tie.Need-same-length-3 Inv-loop μ-loop
-same-length-3 c = ?
+same-length-3 c = omega arith
 
--- src/main.rt:36:1
 returns-3 : tie.Need-returns-3 Inv-loop μ-loop
-returns-3 c = ?
+returns-3 c = omega arith
 
 pub read-input-spec : {M : Type 1} → statement M
 read-input-spec =

@@ -1,3 +1,10 @@
+-- `formrun::serve` meets its contract: the bytes that are written are the answer to those that were read. Assumes nothing.
+use mathlib.Core.Path.{sym, subst}
+use Prim.Native.Nat.{_≤_}
+use native.Mathlib.Omega.{arith}
+use lib.ListN.{length}
+use lib.Seq.{length-take-le}
+use Rattle.formrun.specs.Reading.{Within}
 use borrow.Author.Needs.{needs}
 use Rattle.formrun.proofs.serve.Statement.{statement}
 use Rattle.formrun.proofs.serve.Tie as tie
@@ -8,71 +15,58 @@ use Rattle.formrun.proofs.read_input.Reads as read-input-reads
 use Rattle.io.proofs.write_all.Reads as write-all-reads
 use Rattle.os.proofs.fail.Reads as fail-reads
 
--- src/main.rt:105:29
 read-input-requires : tie.Need-read-input-requires
 read-input-requires c κs = search needs
 
--- src/main.rt:105:22
 enum-known-len : tie.Need-enum-known-len
 enum-known-len c = search needs
 
--- src/main.rt:106:18
 enum-told : tie.Need-enum-told
 enum-told c = search needs
 
--- src/main.rt:106:18
 slice-aggregate-fail : tie.Need-slice-aggregate-fail
 slice-aggregate-fail c = search needs
 
--- src/main.rt:106:9
 fail-requires : tie.Need-fail-requires
 fail-requires c κs = search needs
 
--- src/main.rt:107:9
 same-length : tie.Need-same-length
 same-length c = search needs
 
--- src/main.rt:107:9
 returns : tie.Need-returns
 returns c = search needs
 
--- src/main.rt:109:9
 answer-requires : tie.Need-answer-requires
-answer-requires c κs = ?
+answer-requires c κs =
+    let s = c .before .before .before .before .before .before .before .before .before in
+    let r = c .before .before .before .before .before .before .read-input in
+    let n : c .before .before .len .given .0 .0 ≤ length (s .args .buf .now) = subst (Within (length (s .args .buf .now))) (c .before .before .len .given .1) (r .ensures) in
+    (omega arith, omega arith)
 
--- src/main.rt:110:44
 slice-reshare-prefix-write-all : tie.Need-slice-reshare-prefix-write-all
 slice-reshare-prefix-write-all c = search needs
 
--- src/main.rt:110:44
 slice-aggregate-write-all : tie.Need-slice-aggregate-write-all
-slice-aggregate-write-all c = ?
+slice-aggregate-write-all c = let a = c .before .before .before .answer in sym (length-take-le (a .result) (a .last .0) (a .ensures .0))
 
--- src/main.rt:110:9
 write-all-requires : tie.Need-write-all-requires
 write-all-requires c κs = search needs
 
--- src/main.rt:111:18
 slice-aggregate-fail-2 : tie.Need-slice-aggregate-fail-2
 slice-aggregate-fail-2 c = search needs
 
--- src/main.rt:111:9
 fail-requires-2 : tie.Need-fail-requires-2
 fail-requires-2 c κs = search needs
 
--- src/main.rt:102:1
 same-length-2 : tie.Need-same-length-2
 same-length-2 c = search needs
 
--- src/main.rt:102:1
 returns-2 : tie.Need-returns-2
 returns-2 c = search needs
 
--- src/main.rt:102:1
 same-length-3 : tie.Need-same-length-3
 same-length-3 c = search needs
 
--- src/main.rt:102:1
 returns-3 : tie.Need-returns-3
 returns-3 c = search needs
 
