@@ -197,10 +197,10 @@ impl Taken {
 
 /// How colours go from row to row.
 pub(super) struct Colours {
-    now: u32,
+    pub(super) now: u32,
     /// One row in so many has another colour than the row before, one in so many begins the overflow; 0 for none.
-    step: usize,
-    overflow: usize,
+    pub(super) step: usize,
+    pub(super) overflow: usize,
 }
 
 impl Colours {

@@ -79,7 +79,15 @@ fn head_words(random: &mut Random, points: usize, rows: usize) -> [u32; 6] {
 
 /// Frames of rows as they are made for the row functions: each comes with points, which the frame has unless an earlier row placed them.
 fn of_rows(random: &mut Random, points: usize, rows: usize) -> Frame {
-    let mut colours = Colours::new(random, rows);
+    let mut colours = match random.one_in(2) {
+        true => Colours::new(random, rows),
+        // Rows enough in each colour to be listed otherwise.
+        false => Colours {
+            now: 0,
+            step: random.pick(&[0, 8]),
+            overflow: 0,
+        },
+    };
     let mut taken = Taken {
         points: points as u32,
         colour: 0,
