@@ -21,6 +21,7 @@ pub mod random;
 pub mod rattle;
 pub mod rows;
 pub mod run;
+pub mod samples;
 pub mod support;
 pub mod words;
 

@@ -188,7 +188,10 @@ impl Sheet {
     fn row_words(&self, row: &Listed, words: &mut Vec<u32>) {
         let set = &self.set;
         if row.record.kind == SCALAR.kind {
-            let (listed, strained) = (&set.scalar_constraints[row.number], set.strained[row.number]);
+            let (listed, strained) = (
+                &set.scalar_constraints[row.number],
+                set.strained[row.number],
+            );
             return ScalarRow::of(row.colour, strained, listed).write(words);
         }
         let listed = &set.elastic_constraints[row.number];

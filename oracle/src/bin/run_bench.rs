@@ -23,7 +23,10 @@ const SHEETS: [(&str, &[Element]); 4] = [
     ("scalar", &[Distance, Dihedral, Volume]),
     ("corotational", &[Corotational]),
     ("neo-Hookean", &[NeoHookean]),
-    ("mixed", &[Distance, Dihedral, Volume, Corotational, NeoHookean]),
+    (
+        "mixed",
+        &[Distance, Dihedral, Volume, Corotational, NeoHookean],
+    ),
 ];
 
 /// The shortest times so far, in nanoseconds.
@@ -67,7 +70,9 @@ fn case(elements: &'static [Element], mode: u32, rows: usize) -> Case {
     }
     let mut after = frame.clone();
     assert_eq!(run::run(&mut after.bytes), (0, 0));
-    let strained = after.rows().filter(|&row| after.get(row, "strained", 0) == 1);
+    let strained = after
+        .rows()
+        .filter(|&row| after.get(row, "strained", 0) == 1);
     Case {
         rows,
         solves: rows + strained.count() * RESWEEPS as usize,
@@ -164,11 +169,25 @@ fn main() {
             cases.iter_mut().for_each(|case| case.time(&mut copy));
         }
     }
-    println!("nanoseconds for each row and sweep (a main sweep and {RESWEEPS} resweeps); the shortest of {rounds} rounds");
-    println!("oracle: reads, sweeps, writes; sweeps: the oracle's sweeps alone; growth: the library's last by its first");
+    println!(
+        "nanoseconds for each row and sweep (a main sweep and {RESWEEPS} resweeps); the shortest of {rounds} rounds"
+    );
+    println!(
+        "oracle: reads, sweeps, writes; sweeps: the oracle's sweeps alone; growth: the library's last by its first"
+    );
     println!(
         "{:<14}{:>5}{:>6}{:>8}{:>9}{:>7}{:>8}{:>8}{:>11}{:>11}{:>8}",
-        "sheet", "mode", "rows", "solved", "library", "check", "oracle", "sweeps", "to oracle", "to sweeps", "growth"
+        "sheet",
+        "mode",
+        "rows",
+        "solved",
+        "library",
+        "check",
+        "oracle",
+        "sweeps",
+        "to oracle",
+        "to sweeps",
+        "growth"
     );
     for (name, mode, cases) in &lines {
         for case in cases {

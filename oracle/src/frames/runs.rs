@@ -258,7 +258,12 @@ fn disturb_row(random: &mut Random, frame: &mut Frame, row: usize) {
             let other = frame.get(row, "ids", (place + 1) % 4);
             frame.put(row, "ids", place, other);
         }
-        3 => frame.put(row, "im", place, random.pick(&[0.0f32, -0.0, -1.0, 1.0e6]).to_bits()),
+        3 => frame.put(
+            row,
+            "im",
+            place,
+            random.pick(&[0.0f32, -0.0, -1.0, 1.0e6]).to_bits(),
+        ),
         4..7 => frame.put(row, "strained", 0, 1),
         // The ids of a distance row are its two points once more, so that any count will do.
         7 if scalar && frame.get(row, "type", 0) == 0 => {
@@ -271,7 +276,12 @@ fn disturb_row(random: &mut Random, frame: &mut Frame, row: usize) {
             frame.put(row, "lower bound", 0, lower.to_bits());
             frame.put(row, "upper bound", 0, upper.to_bits());
         }
-        8 => frame.put(row, "strain_cap", random.below(6), finite(random).abs().to_bits()),
+        8 => frame.put(
+            row,
+            "strain_cap",
+            random.below(6),
+            finite(random).abs().to_bits(),
+        ),
         9 if record.kind == COROTATIONAL.kind => {
             frame.put(row, "volumetric", 0, random.below(2) as u32);
             frame.put(row, "vol_cap", 0, finite(random).abs().to_bits());
@@ -303,7 +313,10 @@ fn disturb_row(random: &mut Random, frame: &mut Frame, row: usize) {
 /// its partner has in the frame.
 pub fn relisting(random: &mut Random, frame: &Frame) -> (Frame, Vec<usize>) {
     let rows = frame.rows();
-    let colours: Vec<_> = rows.clone().map(|row| frame.get(row, "colour", 0)).collect();
+    let colours: Vec<_> = rows
+        .clone()
+        .map(|row| frame.get(row, "colour", 0))
+        .collect();
     let mut order: Vec<usize> = (0..rows.len()).collect();
     let mut from = 0;
     for colour in colours.chunk_by(|a, b| a == b) {

@@ -133,7 +133,10 @@ fn colour(taken: &mut [Vec<u16>], ids: [u32; 4], colours: u16) -> u16 {
 
 /// A sheet's frame.
 pub fn sheet(asked: &Sheet) -> Frame {
-    let has_cells = asked.elements.iter().any(|e| !matches!(e, Distance | Dihedral));
+    let has_cells = asked
+        .elements
+        .iter()
+        .any(|e| !matches!(e, Distance | Dihedral));
     let grid = Grid {
         side: asked.side,
         layers: if has_cells { 2 } else { 1 },

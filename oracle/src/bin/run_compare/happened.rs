@@ -101,7 +101,9 @@ impl Row<'_> {
 
     /// All parts of a field afterwards.
     fn all(&self, name: &str, parts: usize) -> Vec<u32> {
-        (0..parts).map(|part| self.after.get(self.number, name, part)).collect()
+        (0..parts)
+            .map(|part| self.after.get(self.number, name, part))
+            .collect()
     }
 }
 
@@ -142,7 +144,10 @@ impl Happened {
         self.hit_if(rows == 0, "no rows");
         self.hit_if(points == MOST, "4,096 points");
         self.hit_if(rows == MOST, "4,096 rows");
-        self.hit_if(before.bytes == after.bytes, "frames whose run alters nothing");
+        self.hit_if(
+            before.bytes == after.bytes,
+            "frames whose run alters nothing",
+        );
         for point in 1..before.rows().start {
             self.mark_point(before, after, point);
         }
@@ -176,7 +181,9 @@ impl Happened {
 
     fn mark_ids(&mut self, row: &Row, points: u32, shared: &mut HashSet<u32>) {
         let count = row.before.count(row.number);
-        let ids: Vec<_> = (0..count).map(|i| row.before.get(row.number, "ids", i)).collect();
+        let ids: Vec<_> = (0..count)
+            .map(|i| row.before.get(row.number, "ids", i))
+            .collect();
         for &id in &ids {
             self.hit(match id {
                 u32::MAX => "ids 0xFFFFFFFF",
@@ -215,7 +222,10 @@ impl Happened {
         }
         self.hit("no update: strained 1, reswept");
         let never = row.record.kind == SCALAR.kind && row.before("type") != 0;
-        self.hit_if(never, "no update: strained dihedral or cell volume, reswept");
+        self.hit_if(
+            never,
+            "no update: strained dihedral or cell volume, reswept",
+        );
     }
 
     fn mark_scalar(&mut self, row: &Row) {
@@ -224,8 +234,14 @@ impl Happened {
         let raised = row.after("peak_impulse") != row.before("peak_impulse");
         self.hit_if(raised, "updates: peak impulse raised");
         let impulse = row.after("impulse");
-        self.hit_if(impulse == row.after("lower bound"), "impulse ends at its lower bound");
-        self.hit_if(impulse == row.after("upper bound"), "impulse ends at its upper bound");
+        self.hit_if(
+            impulse == row.after("lower bound"),
+            "impulse ends at its lower bound",
+        );
+        self.hit_if(
+            impulse == row.after("upper bound"),
+            "impulse ends at its upper bound",
+        );
     }
 
     fn mark_elastic(&mut self, row: &Row) {
@@ -260,7 +276,10 @@ impl Happened {
         });
         if renewed && row.after("inv_a") == 0 {
             let zeros = row.all("inv_a", 36).iter().all(|&bits| bits == 0);
-            self.hit_if(zeros, "updates: neo-Hookean block renewed, without an inverse");
+            self.hit_if(
+                zeros,
+                "updates: neo-Hookean block renewed, without an inverse",
+            );
         }
     }
 

@@ -11,9 +11,7 @@ mod formrun;
 mod happened;
 
 use happened::Happened;
-use oracle::frames::{
-    self, Frame, SORTS, Sizes, damaged, exchanged_overflow, relisting, runs,
-};
+use oracle::frames::{self, Frame, SORTS, Sizes, damaged, exchanged_overflow, relisting, runs};
 use oracle::layout::Record;
 use oracle::random::Random;
 use oracle::{exported, run};
@@ -112,7 +110,11 @@ impl Found {
         self.happened.refused(answer.0);
         let (given, left, kept) = self.library(frame);
         if given != answer {
-            self.differs("number and place", frame, format!("{given:?}, not {answer:?}"));
+            self.differs(
+                "number and place",
+                frame,
+                format!("{given:?}, not {answer:?}"),
+            );
         } else if left != expected {
             let first = left.iter().zip(&expected).position(|(a, b)| a != b);
             let count = left.iter().zip(&expected).filter(|(a, b)| a != b).count();
@@ -222,7 +224,10 @@ fn alike(
     other: &[u8],
 ) -> bool {
     let first = after.rows().start;
-    let until = after.records.get(first).map_or(after.bytes.len(), |row| row.0);
+    let until = after
+        .records
+        .get(first)
+        .map_or(after.bytes.len(), |row| row.0);
     let same = |(new, &old): (usize, &usize)| {
         let ((at, record), (place, _)) = (after.records[first + old], others[first + new]);
         after.bytes[at..at + record.size()] == other[place..place + record.size()]
