@@ -66,6 +66,7 @@ impl Sheet {
             rows: Vec::with_capacity(rows as usize),
         };
         let (points, rest) = frame[HEAD.size()..].split_at(points as usize * POINT.size());
+        sheet.reserve(points.len() / POINT.size(), rows as usize);
         for point in points.chunks_exact(POINT.size()) {
             sheet.read_point(point);
         }
@@ -84,6 +85,15 @@ impl Sheet {
             ..Default::default()
         }];
         sheet
+    }
+
+    /// Room enough from the start, whatever the kinds of the rows.
+    fn reserve(&mut self, points: usize, rows: usize) {
+        self.bodies.poses.reserve(points);
+        self.bodies.vels.reserve(points);
+        self.set.scalar_constraints.reserve(rows);
+        self.set.elastic_constraints.reserve(rows);
+        self.set.strained.reserve(rows);
     }
 
     fn read_point(&mut self, record: &[u8]) {

@@ -317,8 +317,5 @@ impl Happened {
         for label in LABELS {
             println!("    {:>9} {label}", self.count(label));
         }
-        if self.missing() {
-            println!("something of the list never happened");
-        }
     }
 }

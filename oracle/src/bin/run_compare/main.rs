@@ -204,6 +204,9 @@ impl Found {
             self.exchanged, self.ended_otherwise
         );
         self.happened.print();
+        if self.happened.missing() && !self.small {
+            println!("something of the list never happened");
+        }
         if let Some(it) = &self.shortest {
             println!(
                 "the shortest frame that differs, {} bytes, in {}: {}",
