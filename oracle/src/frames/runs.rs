@@ -3,6 +3,7 @@
 
 use super::accepted::{Colours, Frame, Taken, accepted, kinds};
 use super::sheet::{Element, Sheet, sheet};
+use crate::check::check;
 use crate::inputs::{
     corotational_head_points_row, finite, finite_pattern, finite_special, head,
     neo_hookean_head_points_row, plain, scalar_head_points_row,
@@ -10,6 +11,7 @@ use crate::inputs::{
 use crate::layout::{COROTATIONAL, HEAD, Holds, MOST, OVERFLOW, POINT, Record, SCALAR};
 use crate::random::Random;
 use crate::rows::{Head, POINTS, Point, Points};
+use crate::run::run;
 use crate::support::vector::Vector;
 use crate::words::{Words, value_of, words_of};
 
@@ -178,7 +180,7 @@ fn name(
     }
 }
 
-/// A sheet with at most so many points and rows, mostly with something wrong with it.
+/// A sheet with at most so many points and rows, half of the time with something wrong with it.
 fn disturbed_sheet(random: &mut Random, points: usize, rows: usize) -> Frame {
     const ALL: [Element; 5] = [
         Element::Distance,
@@ -203,8 +205,16 @@ fn disturbed_sheet(random: &mut Random, points: usize, rows: usize) -> Frame {
             false => f32::from_bits(least),
         },
     });
-    disturb_points(random, &mut frame);
-    if !random.one_in(8) {
+    if random.one_in(2) {
+        updated(&mut frame, random.below(3) as u32);
+    }
+    let tame = random.one_in(2);
+    let sort = match tame {
+        true => 0,
+        false => random.below(10),
+    };
+    disturb_points(random, &mut frame, sort);
+    if !tame {
         for row in frame.rows() {
             disturb_row(random, &mut frame, row);
         }
@@ -212,10 +222,20 @@ fn disturbed_sheet(random: &mut Random, points: usize, rows: usize) -> Frame {
     frame
 }
 
-/// Points that are moved, turned inside out, flat, in one place, huge or tiny; and their velocities.
-fn disturb_points(random: &mut Random, frame: &mut Frame) {
-    let sort = random.below(10);
-    let far = random.pick(&[0.001, 0.1, 0.1, 1.0]);
+/// The frame as a run with an update leaves it, if its numbers stay finite: rows that were updated before, blocks that may be kept.
+fn updated(frame: &mut Frame, resweeps: u32) {
+    let mut after = frame.clone();
+    after.put(0, "mode", 0, 1);
+    after.put(0, "resweeps", 0, resweeps);
+    if run(&mut after.bytes) == (0, 0) && check(&after.bytes) == (0, 0) {
+        after.put(0, "mode", 0, frame.get(0, "mode", 0));
+        *frame = after;
+    }
+}
+
+/// Points that are moved, turned inside out, flat, in one place, huge or tiny, as the sort says; and their velocities.
+fn disturb_points(random: &mut Random, frame: &mut Frame, sort: usize) {
+    let far = random.pick(&[0.001, 0.01, 0.1, 1.0]);
     let scale = random.pick(&[1.0e-30, 1.0e-20, 1.0e-3, 1.0e6, 1.0e19, 3.0e37]);
     for point in 1..frame.rows().start {
         for part in 0..3 {
@@ -229,9 +249,11 @@ fn disturb_points(random: &mut Random, frame: &mut Frame) {
                 (8, _) if random.one_in(8) => finite_pattern(random),
                 _ => now,
             };
-            frame.put(point, "position", part, place.to_bits());
+            if place.is_finite() {
+                frame.put(point, "position", part, place.to_bits());
+            }
             let velocity = match random.below(16) {
-                0 => finite(random),
+                0 if sort > 0 => finite(random),
                 1..4 => plain(random),
                 4..8 => random.unit(),
                 _ => continue,
