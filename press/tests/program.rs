@@ -200,6 +200,10 @@ fn files_that_cannot_be_read() {
         assert!(err.contains("Is a directory"), "{err}");
     }
     assert!(names(&folder).is_empty());
+    // It can be opened, but not read.
+    let (status, out, err) = ended(press(&["check", "/proc/self/mem"]));
+    assert_eq!((status, out.as_str()), (2, ""));
+    assert!(err.starts_with("press: /proc/self/mem: "), "{err}");
     // Without end: only as much is read as can make a difference.
     let (status, out, _) = ended(press(&["check", "/dev/zero"]));
     assert_eq!(status, 1);
