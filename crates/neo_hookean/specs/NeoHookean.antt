@@ -14,8 +14,8 @@ use Rattle.cell.specs.Strain.{outerSum, weighted, strainBlockFromG}
 use Rattle.cell.specs.Cell.{strainRates, strainLosses}
 use Rattle.cell.specs.declared.Impulses.{Impulses}
 use Rattle.cell.specs.declared.Solved.{Solved}
-use Rattle.neo_hookean.specs.Hessian.{gradient, hessian}
-use Rattle.neo_hookean.specs.declared.Energy.{Energy}
+use Rattle.energy.specs.Hessian.{gradient, hessian}
+use Rattle.energy.specs.declared.Energy.{Energy}
 use Rattle.neo_hookean.specs.declared.Material.{Material}
 use Rattle.neo_hookean.specs.declared.Stiffness.{Stiffness}
 use Rattle.neo_hookean.specs.declared.Block.{Block}

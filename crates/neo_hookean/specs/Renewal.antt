@@ -6,9 +6,9 @@ use lib.Ieee.{Float}
 use Rattle.vector.specs.declared.Four.{Four}
 use Rattle.strain.specs.Six.{scale6}
 use Rattle.places.specs.declared.Masses.{Masses}
-use Rattle.neo_hookean.specs.Hessian.{gradient}
+use Rattle.energy.specs.Hessian.{gradient}
 use Rattle.neo_hookean.specs.NeoHookean.{isFresh, kept, renewed, updateBlock}
-use Rattle.neo_hookean.specs.declared.Energy.{Energy}
+use Rattle.energy.specs.declared.Energy.{Energy}
 use Rattle.neo_hookean.specs.declared.Material.{Material}
 use Rattle.neo_hookean.specs.declared.Stiffness.{Stiffness}
 use Rattle.neo_hookean.specs.declared.Block.{Block}

@@ -1,5 +1,4 @@
 // The neo-Hookean row.
-pub mod hessian; // the gradient of the energy and its tangent stiffness
 pub mod iteration; // the warm start and the solve
 pub mod renewal; // the stiffness and the block, kept or renewed
 
@@ -10,7 +9,6 @@ use cell::Impulses;
 use cell::Pose;
 use cell::Solved;
 use places::Holds;
-use vector::Mat3;
 
 // Neo-Hookean: what no step alters.
 #[repr(C)]
@@ -37,14 +35,6 @@ pub struct NeoHookeanRow {
     pub impulses: Impulses,
     pub material: Material,
     pub stiffness: Stiffness,
-}
-
-// S = I + ε, κ and the gradient of the energy.
-#[repr(C)]
-pub struct Energy {
-    pub s: Mat3,
-    pub kappa: f32,
-    pub grad: [f32; 6],
 }
 
 // The stiffness and the block's inverse, kept or renewed.

@@ -2,14 +2,14 @@
 ghost use mathlib.Core.Path.{_≡_};
 ghost use Rattle.neo_hookean.specs.NeoHookean as spec;
 use crate::Block;
-use crate::Energy;
 use crate::Material;
 use crate::Stiffness;
-use crate::hessian::gradient;
-use crate::hessian::hessian;
 use cell::tensor::outer_sum;
 use cell::tensor::strain_block_from_g;
 use cell::tensor::weighted;
+use energy::Energy;
+use energy::hessian::gradient;
+use energy::hessian::hessian;
 use inverse::try_inverse;
 use places::Masses;
 use strain::add36;

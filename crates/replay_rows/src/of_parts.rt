@@ -1,10 +1,11 @@
-// The functions that take no row: of the crates `scalar`, `neo_hookean` and `cell`.
+// The functions that take no row: of the crates `gradients`, `energy` and `cell`.
 ghost use Prim.Native.Nat.{_+_, _≤_};
 use crate::Function;
 use crate::replay_file;
 use cell::tensor;
-use neo_hookean::Energy;
-use neo_hookean::hessian;
+use energy::Energy;
+use energy::hessian;
+use gradients::Gradients;
 use replay::Tally;
 use replay::flat_is;
 use replay::float;
@@ -15,7 +16,6 @@ use replay::mat3;
 use replay::mat3_is;
 use replay::six;
 use replay::six_is;
-use scalar::Gradients;
 
 pub(crate) enum Part {
     DihedralGradients,
@@ -43,7 +43,7 @@ pub(crate) fn all(t: Tally) -> Tally {
 // Whether the function's answer to the record's first words is what stands after them.
 pub(crate) fn agrees(f: Part, w: &[u32; 400]) -> bool {
     match f {
-        Part::DihedralGradients => gradients_are(w, 13, scalar::dihedral::dihedral_gradients(four(w, 0), float(w, 12))),
+        Part::DihedralGradients => gradients_are(w, 13, gradients::dihedral::dihedral_gradients(four(w, 0), float(w, 12))),
         Part::NeoHookeanGradient => energy_is(w, 8, hessian::gradient(float(w, 0), float(w, 1), &six(w, 2))),
         Part::NeoHookeanHessian => flat_is(w, 12, &hessian::hessian(float(w, 0), float(w, 1), mat3(w, 2), float(w, 11))),
         Part::StrainBlockFromG => flat_is(w, 9, &tensor::strain_block_from_g(mat3(w, 0))),

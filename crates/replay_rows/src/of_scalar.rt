@@ -204,7 +204,7 @@ fn scene_is(w: &[u32; 400], from: usize, k: usize, s: Scene) -> bool
 // The row with its gradients anew, and the constraint's value.
 fn gradients_are(w: &[u32; 400]) -> bool {
     let r = row(w, 0);
-    let g = scalar::gradient::compute_gradients(r.kind, r.pos, r.grad, r.spring.rest);
+    let g = gradients::gradient::compute_gradients(r.kind, r.pos, r.grad, r.spring.rest);
     let grad = g.grad;
     let mut q = r;
     q.grad = grad;

@@ -1,26 +1,26 @@
-// The exports of the crate `neo_hookean`.
+// The exports of the crates `energy` and `neo_hookean`.
 use cell::Solved;
-use neo_hookean::Energy;
+use energy::Energy;
 use neo_hookean::NeoHookeanRow;
 use places::Holds;
 use vector::Mat3;
 
 ghost use mathlib.Core.Path.{_≡_};
-ghost use Rattle.neo_hookean.specs.Hessian as hessian;
+ghost use Rattle.energy.specs.Hessian as hessian;
 ghost use Rattle.neo_hookean.specs.Row as spec;
 
 #[no_mangle]
 pub extern "C" fn rt_neo_hookean_gradient(mu: f32, lambda: f32, strain: &[f32; 6]) -> Energy
     ensures { λ t. ⌜ t ≡ hessian.gradient mu lambda (now (strain .entry)) ⌝ }
 {
-    neo_hookean::hessian::gradient(mu, lambda, strain)
+    energy::hessian::gradient(mu, lambda, strain)
 }
 
 #[no_mangle]
 pub extern "C" fn rt_neo_hookean_hessian(mu: f32, lambda: f32, s: Mat3, kappa: f32, out: &mut [f32; 36])
     ensures { λ _. ⌜ now (out .exit) ≡ hessian.hessian mu lambda s kappa ⌝ }
 {
-    *out = neo_hookean::hessian::hessian(mu, lambda, s, kappa);
+    *out = energy::hessian::hessian(mu, lambda, s, kappa);
 }
 
 #[no_mangle]

@@ -1,27 +1,27 @@
-// The exports of the crate `scalar`.
+// The exports of the crates `gradients` and `scalar`.
+use gradients::Gradients;
 use places::Holds;
-use scalar::Gradients;
 use scalar::SoftScalarConstraint;
 use scalar::Solved;
 use vector::Four;
 
 ghost use mathlib.Core.Path.{_≡_};
-ghost use Rattle.scalar.specs.Dihedral as dihedral;
-ghost use Rattle.scalar.specs.Gradients as gradients;
+ghost use Rattle.gradients.specs.Dihedral as dihedral;
+ghost use Rattle.gradients.specs.Gradients as gradients;
 ghost use Rattle.scalar.specs.Row as spec;
 
 #[no_mangle]
 pub extern "C" fn rt_dihedral_gradients(pos: Four, rest: f32) -> Gradients
     ensures { λ t. ⌜ t ≡ dihedral.dihedralGradients pos rest ⌝ }
 {
-    scalar::dihedral::dihedral_gradients(pos, rest)
+    gradients::dihedral::dihedral_gradients(pos, rest)
 }
 
 #[no_mangle]
 pub extern "C" fn rt_scalar_compute_gradients(kind: u32, pos: Four, grad: Four, rest: f32) -> Gradients
     ensures { λ t. ⌜ t ≡ gradients.computeGradients kind pos grad rest ⌝ }
 {
-    scalar::gradient::compute_gradients(kind, pos, grad, rest)
+    gradients::gradient::compute_gradients(kind, pos, grad, rest)
 }
 
 #[no_mangle]

@@ -12,8 +12,8 @@ use Rattle.places.specs.declared.Held.{Held}
 use Rattle.places.specs.declared.Holds.{Holds}
 use Rattle.places.specs.declared.Masses.{Masses}
 use Rattle.places.specs.Places.{refreshed}
-use Rattle.scalar.specs.Gradients.{computeGradients}
-use Rattle.scalar.specs.declared.Gradients.{Gradients}
+use Rattle.gradients.specs.Gradients.{computeGradients}
+use Rattle.gradients.specs.declared.Gradients.{Gradients}
 use Rattle.scalar.specs.declared.Spring.{Spring}
 use Rattle.scalar.specs.declared.Response.{Response}
 use Rattle.scalar.specs.declared.SoftScalarConstraint.{SoftScalarConstraint}

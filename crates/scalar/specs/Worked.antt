@@ -15,7 +15,7 @@ use Rattle.vector.specs.declared.Four.{Four}
 use Rattle.places.specs.Places.{refreshed}
 use Rattle.places.specs.declared.Held.{Held}
 use Rattle.places.specs.declared.Holds as places
-use Rattle.scalar.specs.Gradients.{computeGradients, distanceGradients, unitX}
+use Rattle.gradients.specs.Gradients.{computeGradients, distanceGradients, unitX}
 use Rattle.scalar.specs.Row.{weightOf, respond, update, losses, rateOf, soughtOf, totalOf, solve, withPeak, begin}
 use Rattle.scalar.specs.declared.SoftScalarConstraint.{SoftScalarConstraint}
 use Rattle.scalar.specs.declared.Solved.{Solved}

@@ -1,8 +1,5 @@
 // The scalar row of soft_scalar_constraint.rs: its update, its warm start, its solve and the test for strain. No row function sees a frame: what the row's
 // places hold goes in, and what each is to lose comes out.
-pub mod dihedral; // the angle between two triangles
-pub mod gradient; // the value and the gradients of each type
-
 ghost use mathlib.Core.Path.{_≡_};
 ghost use Rattle.scalar.specs.Row as spec;
 use places::Held;
@@ -50,25 +47,6 @@ pub struct SoftScalarConstraint {
     pub response: Response,
 }
 
-// A row's gradients and its error.
-#[repr(C)]
-pub struct Gradients {
-    pub grad: Four,
-    pub error: f32,
-}
-
-// Two triangles with a common edge, from particle 0 to particle 1: the edges from particle 0, the unit normals, and the lengths that these had.
-#[repr(C)]
-pub struct Fold {
-    pub p1: Vec3,
-    pub p2: Vec3,
-    pub p3: Vec3,
-    pub n1: Vec3,
-    pub n2: Vec3,
-    pub l1: f32,
-    pub l2: f32,
-}
-
 // The row anew, and what each place is to lose.
 #[repr(C)]
 pub struct Solved {
@@ -111,7 +89,7 @@ pub fn update(r: SoftScalarConstraint, held: Holds) -> SoftScalarConstraint
     ensures { λ q. ⌜ q ≡ spec.update r held ⌝ }
 {
     let pos = places::refreshed(held, r.pos);
-    let g = gradient::compute_gradients(r.kind, pos, r.grad, r.spring.rest);
+    let g = gradients::gradient::compute_gradients(r.kind, pos, r.grad, r.spring.rest);
     let grad = g.grad;
     let w = weight_of(r.count, grad, r.im);
     let response = respond(r.spring, r.response, w, g.error);

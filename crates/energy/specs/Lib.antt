@@ -1,0 +1,3 @@
+-- The neo-Hookean energy. Assumes nothing.
+pub mod Hessian
+pub mod Worked
