@@ -180,16 +180,17 @@ fn main() {
     }
     fs::write(out.join("taken.txt"), taken).unwrap();
     let has = |feature: &str| env::var(format!("CARGO_FEATURE_{feature}")).is_ok();
-    // `frame` and `run` both have a `check`, the same one.
-    link(
-        &package,
-        match (has("RATTLE"), has("RUN")) {
-            (false, false) => &[],
-            (false, true) => &["run"],
-            (true, false) => &["arith_ffi", "rows_ffi", "frame"],
-            (true, true) => &["arith_ffi", "rows_ffi", "run"],
-        },
-    );
+    let mut libraries = Vec::new();
+    if has("RATTLE") {
+        libraries.extend(["arith_ffi", "rows_ffi"]);
+    }
+    if has("RUN") {
+        libraries.push("run");
+    }
+    if !libraries.is_empty() {
+        libraries.push("frame");
+    }
+    link(&package, &libraries);
 }
 
 /// The static libraries of the Rattle crates that are exported, from `RATTLE_LIB`.

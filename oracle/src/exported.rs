@@ -1,4 +1,4 @@
-//! The two functions of the static library `run`, as any program calls them.
+//! `check` of the static library `frame` and `run` of the library `run`, as any program calls them.
 
 /// What both return.
 #[repr(C)]

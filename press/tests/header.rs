@@ -14,8 +14,8 @@ fn a_program_in_c() {
         .args(["-std=c99", "-Wall", "-Wextra", "-Werror", "-O1", "-I"])
         .arg(format!("{package}/include"))
         .arg(format!("{package}/tests/header.c"))
-        .arg(env!("PRESS_LIBRARY"))
-        .arg("-o")
+        .args(["run", "frame"].map(|name| format!("{}/lib{name}.a", env!("PRESS_LIBRARIES"))))
+        .args(["-lm", "-o"])
         .arg(&program)
         .output()
         .expect("a C compiler");
