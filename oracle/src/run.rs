@@ -21,7 +21,8 @@ const CODES: usize = 4;
 pub fn run(frame: &mut [u8]) -> (u32, u64) {
     let answer = check(frame);
     if answer == (0, 0) {
-        let mut sheet = Sheet::read(frame);
+        let mut sheet = Sheet::default();
+        sheet.read(frame);
         sheet.sweeps();
         sheet.write(frame);
     }
@@ -38,6 +39,7 @@ struct Listed {
 }
 
 /// An accepted frame as the listed Rust has it.
+#[derive(Default)]
 pub struct Sheet {
     mode: u32,
     resweeps: u32,
@@ -51,49 +53,43 @@ pub struct Sheet {
 }
 
 impl Sheet {
-    /// Reads an accepted frame.
-    pub fn read(frame: &[u8]) -> Self {
+    /// Reads an accepted frame. What was read before goes; its memory is used again.
+    pub fn read(&mut self, frame: &[u8]) {
         let field = |name| HEAD.offset(name);
+        self.mode = u16_at(frame, field("mode"));
+        self.resweeps = u16_at(frame, field("resweeps"));
+        self.warm_coefficient = Real::from_bits(u32_at(frame, field("warm coefficient")));
+        self.least_strain = Real::from_bits(u32_at(frame, field("least strain")));
+        self.clear();
         let (points, rows) = (u32_at(frame, field("points")), u32_at(frame, field("rows")));
-        let mut sheet = Self {
-            mode: u16_at(frame, field("mode")),
-            resweeps: u16_at(frame, field("resweeps")),
-            warm_coefficient: Real::from_bits(u32_at(frame, field("warm coefficient"))),
-            least_strain: Real::from_bits(u32_at(frame, field("least strain"))),
-            bodies: SolverBodies::default(),
-            set: SoftConstraintsSet::default(),
-            ranges: Vec::new(),
-            rows: Vec::with_capacity(rows as usize),
-        };
         let (points, rest) = frame[HEAD.size()..].split_at(points as usize * POINT.size());
-        sheet.reserve(points.len() / POINT.size(), rows as usize);
         for point in points.chunks_exact(POINT.size()) {
-            sheet.read_point(point);
+            self.read_point(point);
         }
         let (mut start, mut elastic_flags) = (frame.len() - rest.len(), Vec::new());
         let mut words = Vec::new();
         for _ in 0..rows {
             let record = kind_at(frame, start);
             read_words(&frame[start..start + record.size()], &mut words);
-            sheet.read_row(start, record, &words, &mut elastic_flags);
+            self.read_row(start, record, &words, &mut elastic_flags);
             start += record.size();
         }
-        sheet.set.strained.append(&mut elastic_flags);
-        sheet.set.color_ranges.clone_from(&sheet.ranges);
-        sheet.set.groups = vec![SoftGroupLayout {
-            colors: 0..sheet.ranges.len(),
+        self.set.strained.append(&mut elastic_flags);
+        self.set.color_ranges.clone_from(&self.ranges);
+        self.set.groups = vec![SoftGroupLayout {
+            colors: 0..self.ranges.len(),
             ..Default::default()
         }];
-        sheet
     }
 
-    /// Room enough from the start, whatever the kinds of the rows.
-    fn reserve(&mut self, points: usize, rows: usize) {
-        self.bodies.poses.reserve(points);
-        self.bodies.vels.reserve(points);
-        self.set.scalar_constraints.reserve(rows);
-        self.set.elastic_constraints.reserve(rows);
-        self.set.strained.reserve(rows);
+    fn clear(&mut self) {
+        self.bodies.poses.clear();
+        self.bodies.vels.clear();
+        self.set.scalar_constraints.clear();
+        self.set.elastic_constraints.clear();
+        self.set.strained.clear();
+        self.ranges.clear();
+        self.rows.clear();
     }
 
     fn read_point(&mut self, record: &[u8]) {

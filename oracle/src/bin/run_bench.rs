@@ -1,13 +1,13 @@
 //! Times the exported `run` beside the oracle's, in one process, on the same frames: `run_bench [ROUNDS]`.
 //!
 //! Sheets of scalar rows, of corotational cells, of neo-Hookean cells and of all together, in each mode, with 8 resweeps, of 64, 512 and
-//! 4,096 rows. Every run starts from the frame as it was made; the copy is not timed. The oracle's time is that of reading the frame into
-//! the listed structs, of the sweeps and of writing it back, without any test of the frame; the library's includes its `check`, whose time
-//! is printed too. Times are the processor's for this thread, so that other load on the machine counts little; the shortest of several is
-//! taken, and all take turns.
+//! 4,096 rows; the larger ones are the smallest several times. Every run starts from the frame as it was made; the copy is not timed.
+//! The oracle's time is that of reading the frame into the listed structs, in memory that is there, of the sweeps and of writing it back,
+//! without any test of the frame; the library's includes its `check`, whose time is printed too. Times are the processor's for this
+//! thread, so that other load on the machine counts little; the shortest of several is taken, and all take turns.
 
 use oracle::exported;
-use oracle::frames::{Element, Sheet, sheet};
+use oracle::frames::{Element, Frame, Sheet, sheet};
 use oracle::run;
 use std::env;
 use std::hint::black_box;
@@ -46,12 +46,39 @@ struct Case {
     times: Times,
 }
 
-/// A sheet of exactly so many rows, in this mode. Without update all rows are flagged strained; with it those of the least strain 0 are.
+/// So many sheets alike side by side, in one frame: a row of it meets the same whatever their number.
+fn tiled(sheet: &Frame, copies: usize) -> Frame {
+    let points = sheet.get(0, "points", 0);
+    let rows = sheet.rows();
+    let mut frame = Frame::default();
+    let mut push = |number: usize| {
+        let (start, record) = sheet.records[number];
+        frame.records.push((frame.bytes.len(), record));
+        frame
+            .bytes
+            .extend(&sheet.bytes[start..start + record.size()]);
+    };
+    push(0);
+    (0..copies).for_each(|_| (1..rows.start).for_each(&mut push));
+    // All copies of a row one after another, so that colours go up.
+    rows.clone()
+        .for_each(|row| (0..copies).for_each(|_| push(row)));
+    frame.put(0, "points", 0, points * copies as u32);
+    frame.put(0, "rows", 0, (rows.len() * copies) as u32);
+    for (place, number) in frame.rows().enumerate() {
+        let ids = [0, 1, 2, 3].map(|i| frame.get(number, "ids", i));
+        frame.put_ids(number, ids.map(|id| id + points * (place % copies) as u32));
+    }
+    frame
+}
+
+/// Sheets of 64 rows, so many that there are that many rows, in this mode. Without update all rows are flagged strained; with it those of
+/// the least strain 0 are.
 fn case(elements: &'static [Element], mode: u32, rows: usize) -> Case {
     let asked = |side| Sheet {
         elements,
         side,
-        rows,
+        rows: SIZES[0],
         colours: 64,
         mode,
         resweeps: RESWEEPS,
@@ -61,8 +88,8 @@ fn case(elements: &'static [Element], mode: u32, rows: usize) -> Case {
     let mut sides = 3..;
     let mut frame = loop {
         let frame = sheet(&asked(sides.next().expect("there is a larger one")));
-        if frame.rows().len() == rows {
-            break frame;
+        if frame.rows().len() == SIZES[0] {
+            break tiled(&frame, rows / SIZES[0]);
         }
     };
     for row in frame.rows() {
@@ -119,7 +146,7 @@ fn timed(frame: &[u8], copy: &mut Vec<u8>, call: &mut dyn FnMut(&mut [u8])) -> f
 }
 
 impl Case {
-    fn time(&mut self, copy: &mut Vec<u8>) {
+    fn time(&mut self, copy: &mut Vec<u8>, sheet: &mut run::Sheet) {
         let (frame, times) = (&self.frame, &mut self.times);
         // Small frames are timed more often, so that each size has its share of quiet moments.
         for _ in 0..SIZES[SIZES.len() - 1] / self.rows {
@@ -131,16 +158,15 @@ impl Case {
                 black_box(exported::check(frame));
             });
             let oracle = timed(frame, copy, &mut |frame| {
-                let mut sheet = run::Sheet::read(frame);
+                sheet.read(frame);
                 sheet.sweeps();
                 sheet.write(frame);
             });
             assert!(left == *copy, "library and oracle end otherwise");
-            let mut sheet = run::Sheet::read(frame);
+            sheet.read(frame);
             let start = now();
-            black_box(&mut sheet).sweeps();
+            black_box(&mut *sheet).sweeps();
             let sweeps = now() - start;
-            black_box(&sheet);
             times.library = times.library.min(library);
             times.check = times.check.min(check);
             times.oracle = times.oracle.min(oracle);
@@ -163,10 +189,12 @@ fn main() {
             lines.push((name, mode, SIZES.map(|rows| case(elements, mode, rows))));
         }
     }
-    let mut copy = Vec::new();
+    let (mut copy, mut sheet) = (Vec::new(), run::Sheet::default());
     for _ in 0..rounds {
         for (_, _, cases) in &mut lines {
-            cases.iter_mut().for_each(|case| case.time(&mut copy));
+            for case in cases {
+                case.time(&mut copy, &mut sheet);
+            }
         }
     }
     println!(
