@@ -184,11 +184,8 @@ fn main() {
     if has("RATTLE") {
         libraries.extend(["arith_ffi", "rows_ffi"]);
     }
-    if has("RUN") {
+    if has("RATTLE") || has("RUN") {
         libraries.push("run");
-    }
-    if !libraries.is_empty() {
-        libraries.push("frame");
     }
     link(&package, &libraries);
 }

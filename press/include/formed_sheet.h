@@ -1,8 +1,8 @@
-/* check of libframe.a and run of librun.a: they test and run a frame of a formed sheet where it lies in memory.
+/* check and run of librun.a: they test and run a frame of a formed sheet where it lies in memory.
  *
  * The frame, its records and every refusal are described in docs/FORMAT.md. Both functions return for every
  * content and every length, keep no state, allocate nothing and may be called from any number of threads, each
- * on a frame of its own. Link with: cc program.c librun.a libframe.a -lm
+ * on a frame of its own. Link with: cc program.c librun.a -lm
  */
 
 #ifndef FORMED_SHEET_H

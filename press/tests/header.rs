@@ -14,7 +14,7 @@ fn a_program_in_c() {
         .args(["-std=c99", "-Wall", "-Wextra", "-Werror", "-O1", "-I"])
         .arg(format!("{package}/include"))
         .arg(format!("{package}/tests/header.c"))
-        .args(["run", "frame"].map(|name| format!("{}/lib{name}.a", env!("PRESS_LIBRARIES"))))
+        .arg(env!("PRESS_LIBRARY"))
         .args(["-lm", "-o"])
         .arg(&program)
         .output()
