@@ -1,0 +1,3 @@
+-- What the proofs of formrun cite. Assumes nothing.
+pub mod Printed
+pub mod Returns
