@@ -34,7 +34,11 @@ pub fn put_strained(b: &mut [u8], strain: &[f32; 6], least: f32)
     requires { ⌜ 450 ≤ length (now b) ⌝ }
     ensures { λ _. ⌜ now (b .exit) ≡ putFlag (now (b .entry)) at.rowStrained (cell.isStrained (now (strain .entry)) least) ⌝ }
 {
-    put_flag(b, layout::ROW_STRAINED, cell::update::is_strained(strain, least));
+    put_flag(
+        b,
+        layout::ROW_STRAINED,
+        cell::update::is_strained(strain, least),
+    );
 }
 
 // ---- the pose: only what an update uses of the last one is read

@@ -52,9 +52,7 @@ fn volume_anew(b: &[u8], rot: Mat3, inverted: bool, f: Mat3) -> Volume
     let im = masses_at(b, layout::ROW_IM);
     let springs = springs_of(b);
     let inv_a = floats36_at(b, layout::ELASTIC_INV_A);
-    corotational::volumetric::update_volume(
-        inv_rest, coeffs, im, springs, &inv_a, rot, inverted, f,
-    )
+    corotational::volumetric::update_volume(inv_rest, coeffs, im, springs, &inv_a, rot, inverted, f)
 }
 
 fn put_volume(b: &mut [u8], v: Volume)
@@ -140,9 +138,7 @@ fn solved(b: &[u8], vel: Holds) -> Solved
     let im = masses_at(b, layout::ROW_IM);
     let l = impulses_of(b);
     let u = volume_of(b);
-    corotational::block::solve_corotational(
-        rot, coeffs, im, &strain, &inv_a, &erp, &cfm, l, u, vel,
-    )
+    corotational::block::solve_corotational(rot, coeffs, im, &strain, &inv_a, &erp, &cfm, l, u, vel)
 }
 
 pub fn solve_corotational(b: &mut [u8], vel: Holds) -> Four
