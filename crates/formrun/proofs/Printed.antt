@@ -29,7 +29,7 @@ spelled (suc (suc k)) (suc f) n few fits =
     let least : 10 ^ k * 10 ≤ n = rw (less, pow-suc 10 k) at (few .2 (omega arith)) in
     let large : 10 ≤ n = omega arith in
     let first : (1 ≤ suc k) × (n / 10 < 10 ^ suc k) × (1 < suc k → 10 ^ (suc k - 1) ≤ n / 10) =
-        (omega arith, div-lt-iff-lt-mul {k = 10} {x = n} {y = 10 ^ suc k} (omega arith) .1 (rw (pow-suc 10 (suc k)) at (few .1)), λ _. let one : suc k - 1 ≡ k = omega arith in rw one (le-div-iff-mul-le {k = 10} {x = 10 ^ k} {y = n} (omega arith) .1 least)) in
+    (omega arith, div-lt-iff-lt-mul {k = 10} {x = n} {y = 10 ^ suc k} (omega arith) .1 (rw (pow-suc 10 (suc k)) at (few .1)), λ _. let one : suc k - 1 ≡ k = omega arith in rw one (le-div-iff-mul-le {k = 10} {x = 10 ^ k} {y = n} (omega arith) .1 least)) in
     rw (le-ltb n 10 large, glyph-is (n % 10) (mod-lt n (omega arith)), spelled (suc k) f (n / 10) first (omega arith))
 
 -- the fewest digits of a u64 are at most 20
@@ -68,8 +68,8 @@ module _ (t t′ : List ℕ) (at : ℕ) (s : List ℕ) (r : ℕ) (s₁ : List �
   chain h h′ = record {
     ends = omega (arith, length-append t t′, h .ends, h′ .ends);
     within = h′ .within;
-    holds = h′ .holds ∙ ap (λ (l : List ℕ). l ++ t′) (h .holds) ∙ append-assoc (take at s) t t′
-    }
+    holds = h′ .holds ∙ ap (λ (l : List ℕ). l ++ t′) (h .holds) ∙ append-assoc (take at s) t t′;
+  }
 
 -- the line of a refusal, part by part
 module _ (number place : ℕ) (s : List ℕ) (r₁ : ℕ) (s₁ : List ℕ) (r₂ : ℕ) (s₂ : List ℕ) (r₃ : ℕ) (s₃ : List ℕ) (r₄ : ℕ) (s₄ : List ℕ) (r₅ : ℕ) (s₅ : List ℕ) where

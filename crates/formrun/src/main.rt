@@ -1,8 +1,9 @@
 // formrun: reads a frame of at most 65,536 bytes from standard input and writes the frame after the run; a refused frame gives one line, longer input another.
 //
-// Proved: the bytes that `answer` lays at the start of the buffer are `outputOf` of the bytes that the reads left there, and those are the bytes that main
-// hands to the write. Not covered: what the C library's `read` puts into a buffer and what its `write` does with one. Its contracts, which are assumed, say
-// how many bytes each moved, and no contract can say which. A program has no exit status of its own: where a read or a write fails, a line on standard error says so.
+// Proved: the bytes that `answer` lays at the start of the buffer are `outputOf` of the bytes that stood there. Not covered: which bytes the C library's
+// `read` puts into a buffer and its `write` takes out of one. Their contracts, which are assumed, say how many, and no contract can say which; so that
+// `read_input` reads to the end, and that `serve` writes what `answer` laid, is seen by reading them.
+// A program has no exit status of its own: where a read or a write fails, a line on standard error says so, and the status is 0 all the same.
 ghost use mathlib.Core.Path.{_≡_};
 ghost use Prim.Native.Nat.{ℕ, _+_, _-_, _≤_};
 ghost use lib.ListN.{length, take};

@@ -16,8 +16,8 @@ pasted s text s′ at i room same e all = record {
   within = omega arith;
   holds = ap (take (at + length text)) (e ∙ ap (paste s at text) all)
       ∙ take-paste s at text (length text) (omega arith) (omega arith)
-      ∙ ap (λ (l : List ℕ). take at s ++ l) (take-length text)
-  }
+      ∙ ap (λ (l : List ℕ). take at s ++ l) (take-length text);
+}
 
 abbrev Inv-loop : tie.InvT-loop
 Inv-loop buf₀ at text i₀ buf i = (length buf ≡ length buf₀) × (i ≤ length text) × (buf ≡ paste buf₀ at text i)

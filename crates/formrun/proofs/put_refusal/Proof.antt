@@ -58,8 +58,8 @@ returns c =
     let w = n .before .before .before .before in
     let s = w .before .before .before .before .args in
     line (s .number) (s .place) (s .buf .now)
-        (w .put .result) (w .put .last .0) (n .put-decimal .result) (n .put-decimal .last .0) (a .put2 .result) (a .put2 .last .0) (p .put-decimal2 .result) (p .put-decimal2 .last .0) (e .put3 .result) (e .put3 .last .0)
-        (w .put .ensures) (n .put-decimal .ensures) (a .put2 .ensures) (p .put-decimal2 .ensures) (e .put3 .ensures)
+    (w .put .result) (w .put .last .0) (n .put-decimal .result) (n .put-decimal .last .0) (a .put2 .result) (a .put2 .last .0) (p .put-decimal2 .result) (p .put-decimal2 .last .0) (e .put3 .result) (e .put3 .last .0)
+    (w .put .ensures) (n .put-decimal .ensures) (a .put2 .ensures) (p .put-decimal2 .ensures) (e .put3 .ensures)
 
 pub put-refusal-spec : {M : Type 1} → statement M
 put-refusal-spec =

@@ -46,9 +46,10 @@ same-length-2 : tie.Need-same-length-2
 same-length-2 c = search needs
 
 returns-2 : tie.Need-returns-2
-returns-2 c = let s = c .before .before .before .before .before .before .before .before .before in
-    (omega (arith, c .count .ensures .0),
-      take-put (s .args .done) (length (s .args .buf .now) - s .args .done) (s .args .buf .now) (c .before .before .before .before .before .before .read .last .1 .0) (s .pre))
+returns-2 c = let s = c .before .before .before .before .before .before .before .before .before in (
+  omega (arith, c .count .ensures .0),
+  take-put (s .args .done) (length (s .args .buf .now) - s .args .done) (s .args .buf .now) (c .before .before .before .before .before .before .read .last .1 .0) (s .pre),
+)
 
 pub read-more-spec : {M : Type 1} → statement M
 read-more-spec =
