@@ -1,0 +1,3 @@
+-- What a phase does not assign stays. Assumes nothing.
+pub mod Beside
+pub mod Impulses
