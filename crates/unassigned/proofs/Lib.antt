@@ -1,3 +1,6 @@
 -- What a phase does not assign stays. Assumes nothing.
 pub mod Beside
 pub mod Impulses
+pub mod Back
+pub mod Finite
+pub mod Updates
