@@ -4,3 +4,4 @@ pub mod Impulses
 pub mod Back
 pub mod Finite
 pub mod Updates
+pub mod Sweeps
