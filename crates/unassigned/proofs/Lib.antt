@@ -5,3 +5,5 @@ pub mod Back
 pub mod Finite
 pub mod Updates
 pub mod Sweeps
+pub mod Skipped
+pub mod Frames

@@ -32,11 +32,18 @@ warm-by-kind : (c b : List ℕ) → SameKind c b → assignedInWarm c ≡ assign
 unfolding assignedInWarm
 warm-by-kind c b e = rw e refl
 
-solve-by-kind : (c b : List ℕ) → SameKind c b → assignedInSolve c ≡ assignedInSolve b
+pub solve-by-kind : (c b : List ℕ) → SameKind c b → assignedInSolve c ≡ assignedInSolve b
 unfolding assignedInSolve
 solve-by-kind c b e = rw e refl
 
 -- ---- a main step
+
+-- what is outside of all is outside of the solve
+pub solve-outside : (k : ℕ) (u w : Bool) (b : List ℕ) (ps : Points) → Outside k (assignedInMain u w b ps) → Outside k (assignedInSolve b)
+unfolding assignedInMain
+solve-outside k u w b ps o =
+    let p = outside-split k (when u (assignedInUpdate (positionsOn b ps) b)) _ o in
+    outside-split k (when w (assignedInWarm b)) _ (p .1) .1
 
 module _ (N : ℕ) (k : ℕ) where
   updated : (c : ℕ) (b : List ℕ) → Bytes b → Good Row c b → (u : Bool) (least : Float) (ps : Points)
