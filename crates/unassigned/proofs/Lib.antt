@@ -7,3 +7,4 @@ pub mod Updates
 pub mod Sweeps
 pub mod Skipped
 pub mod Frames
+pub mod Velocities

@@ -82,36 +82,33 @@ module _ (p j : ℕ) (four : p < 4) (few : j < 12) where
         (beside-place (held .d .named) 3 (s .d))))
 
     -- every field but the positions lies before byte 30 or from byte 78 on
-    after : (i n : ℕ) → 78 ≤ i → Out byte i n
-    after i n h = inl (omega arith)
-
     gradients-out : (type : ℕ) → Outside byte (gradients type)
     unfolding gradients
-    gradients-out type = (after 94 24 (omega arith), outside-when byte (not (eqb type 0)) (floats 118 6) (after 118 24 (omega arith), tt))
+    gradients-out type = (inl (omega arith), outside-when byte (not (eqb type 0)) (floats 118 6) (inl (omega arith), tt))
 
     scalar-out : (type : ℕ) → Outside byte (scalarUpdate held type)
     unfolding scalarUpdate
     scalar-out type =
-        (inr (omega arith), (after 154 4 (omega arith), (after 158 4 (omega arith), (after 162 4 (omega arith), (after 170 4 (omega arith),
+        (inr (omega arith), (inl (omega arith), (inl (omega arith), (inl (omega arith), (inl (omega arith),
         outside-join byte (positions held) _ positions-out (gradients-out type))))))
 
     pose-out : Outside byte (poseUpdate held)
     unfolding poseUpdate
     pose-out =
-        (inr (omega arith), (inr (omega arith), (after 178 16 (omega arith), (after 194 36 (omega arith), (after 398 24 (omega arith), positions-out)))))
+        (inr (omega arith), (inr (omega arith), (inl (omega arith), (inl (omega arith), (inl (omega arith), positions-out)))))
 
     volume-out : Outside byte volumeUpdate
     unfolding volumeUpdate
     volume-out =
-        (after 510 48 (omega arith), (after 558 4 (omega arith), (after 562 4 (omega arith), (after 566 24 (omega arith), (after 590 24 (omega arith), (after 614 4 (omega arith), tt))))))
+        (inl (omega arith), (inl (omega arith), (inl (omega arith), (inl (omega arith), (inl (omega arith), (inl (omega arith), tt))))))
 
     block-out : (fresh : Bool) → Outside byte (blockUpdate fresh)
     unfolding blockUpdate
     block-out fresh =
-        (after 654 24 (omega arith), outside-when byte (not fresh) _ (after 486 24 (omega arith), (after 510 144 (omega arith), (after 230 144 (omega arith), tt))))
+        (inl (omega arith), outside-when byte (not fresh) _ (inl (omega arith), (inl (omega arith), (inl (omega arith), tt))))
 
     impulses-out : Outside byte (floats at.elasticStrainImpulse 6 and floats at.elasticVolImpulse 1)
-    impulses-out = (after 422 24 (omega arith), (after 446 4 (omega arith), tt))
+    impulses-out = (inl (omega arith), (inl (omega arith), tt))
 
     by-kind : (t u : Bool) (x y z : List Field) → Outside byte x → Outside byte y → Outside byte z → Outside byte (cond t x (cond u y z))
     by-kind true u x y z ox oy oz = ox
@@ -127,11 +124,11 @@ module _ (p j : ℕ) (four : p < 4) (few : j < 12) where
 
       warm-out : Outside byte (assignedInWarm b)
       unfolding assignedInWarm
-      warm-out = by-kind (eqb (le16 b 4) 3) (eqb (le16 b 4) 4) _ _ _ (after 166 4 (omega arith), tt) impulses-out impulses-out
+      warm-out = by-kind (eqb (le16 b 4) 3) (eqb (le16 b 4) 4) _ _ _ (inl (omega arith), tt) impulses-out impulses-out
 
       solve-out : Outside byte (assignedInSolve b)
       unfolding assignedInSolve
-      solve-out = by-kind (eqb (le16 b 4) 3) (eqb (le16 b 4) 4) _ _ _ (after 166 4 (omega arith), tt) impulses-out (after 422 24 (omega arith), tt)
+      solve-out = by-kind (eqb (le16 b 4) 3) (eqb (le16 b 4) 4) _ _ _ (inl (omega arith), tt) impulses-out (inl (omega arith), tt)
 
   pub main-out : (b : List ℕ) (ps : Points) → getD (places (namesAt b)) p 0 ≡ nobody → (u w : Bool) → Outside byte (assignedInMain u w b ps)
   unfolding assignedInMain

@@ -16,7 +16,7 @@ use Rattle.stored.specs.Phases.{namesAt}
 use Rattle.stored.specs.Points.{Points, mainStep}
 use Rattle.stored.specs.PhaseLaws.{positionsOn}
 use Rattle.stored.specs.Run.{updates, warms, warmCoefficient, leastStrain, leaves}
-use Rattle.unassigned.specs.Assigned.{Field, when, _and_, Outside, assignedInUpdate, assignedInWarm, assignedInSolve}
+use Rattle.unassigned.specs.Assigned.{Field, floats, when, _and_, Outside, assignedInUpdate, assignedInWarm, assignedInSolve}
 
 -- the main sweep's step of a row b that meets the points ps: an update where u, a warm start where w, and the solve
 unfoldable pub assignedInMain : Bool → Bool → List ℕ → Points → List Field
@@ -35,6 +35,11 @@ abbrev pub KeepTheirBytes : Type 0
 KeepTheirBytes =
     (s : List ℕ) → Bytes s → checkOf s ≡ accepted → (n : ℕ) → n < length (rows s)
     → (k : ℕ) → Outside k (assignedInRun s n) → getD (row (rows (leaves s)) n) k 0 ≡ getD (row (rows s) n) k 0
+
+-- and in each point: its velocity alone is ever assigned
+abbrev pub PointsKeepTheirBytes : Type 0
+PointsKeepTheirBytes =
+    (s : List ℕ) → checkOf s ≡ accepted → (n k : ℕ) → Outside k (floats at.pointVelocity 3) → getD (row (points (leaves s)) n) k 0 ≡ getD (row (points s) n) k 0
 
 -- ID 0xFFFFFFFF IS SKIPPED, AND THE ROW'S OLD `pos` STAYS: the 12 bytes of each place p that names nobody (a scalar row names its first `count` ids only)
 abbrev pub OldPosStays : Type 0
