@@ -1,21 +1,19 @@
 -- What is put back as it was read leaves the same bytes, also after other puts beside it: the positions of places that are skipped, and the gradients that a distance row leaves. Assumes nothing.
-use Prim.Native.Nat.{ℕ, zero, suc, _+_, _*_, _<_, _≤_, _/_, _%_}
-use mathlib.Core.Path.{_≡_, refl, sym, ap, _∙_, subst}
-use mathlib.Core.Logic.{_⊎_, inl, inr}
+use Prim.Native.Nat.{ℕ, zero, suc, _+_, _<_, _≤_, _/_, _%_}
+use mathlib.Core.Path.{_≡_, refl, sym, ap, _∙_}
+use mathlib.Core.Logic.{inr}
 use mathlib.Core.Bool.{Bool, true, false, cond, not}
 use mathlib.Core.List.{List, [], _∷_}
 use native.Mathlib.Omega.{arith}
 use lib.Dec.{eqb}
-use lib.ListN.{length, getD, set}
-use lib.Seq.{sets}
+use lib.ListN.{getD, set}
 use lib.Ieee.{Float, binary32, ofBits}
-use Rattle.bytes.specs.Bytes.{le32, f32At, bytes2, isFinite, patch}
+use Rattle.bytes.specs.Bytes.{le32, f32At, isFinite}
 use Rattle.bytes.proofs.Parts.{Bytes}
 use Rattle.vector.specs.declared.Vec3.{Vec3}
 use Rattle.vector.specs.declared.Four.{Four}
-use Rattle.places.specs.declared.Held.{Held}
 use Rattle.places.specs.declared.Holds.{Holds}
-use Rattle.places.specs.Places.{heldOr, refreshed}
+use Rattle.places.specs.Places.{refreshed}
 use Rattle.gradients.specs.Gradients.{distanceGradients, computeGradients}
 use Rattle.gradients.specs.declared.Gradients.{Gradients}
 use Rattle.records.specs.Layout as at
@@ -23,7 +21,7 @@ use Rattle.floats.specs.Fields.{vec3At, fourAt, putVec3, putFour}
 use Rattle.floats.proofs.Same.{Finite3, put-vec3-same, bytes-put-vec3}
 use Rattle.stored.specs.Put.{putFlag}
 use Rattle.unassigned.specs.Assigned.{floats, when, Out, Outside, positions, gradients}
-use Rattle.unassigned.proofs.Beside.{outside-split, out-part, vec3-beside, flag-beside}
+use Rattle.unassigned.proofs.Beside.{outside-split, out-part, vec3-beside}
 
 -- ---- bytes stay bytes
 

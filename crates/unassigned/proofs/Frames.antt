@@ -1,29 +1,26 @@
 -- THE TWO STATEMENTS OF A WHOLE RUN, PROVED. Each row is updated at most once, in the main sweep and from the bytes that check accepted, whose floats are finite: that is all that the law of an update asks for. Assumes nothing.
 use Prim.Native.Nat.{ℕ, zero, suc, _+_, _*_, _<_}
-use mathlib.Core.Path.{_≡_, refl, sym, ap, _∙_, subst}
-use mathlib.Core.Bool.{Bool}
+use mathlib.Core.Path.{_≡_, sym, ap, _∙_, subst}
 use mathlib.Core.List.{List, [], _∷_}
 use native.Mathlib.Omega.{arith}
 use native.Mathlib.Nat.{not-suc-le-zero, le-of-suc-le-suc}
-use lib.ListN.{length, getD, take, drop, replicate}
-use lib.Ieee.{Float}
+use lib.ListN.{length, getD, take, drop}
 use Rattle.bytes.specs.Bytes.{le16}
 use Rattle.bytes.proofs.Parts.{Bytes}
-use Rattle.relisting.specs.Sweep.{sweep, sweep-row, before}
+use Rattle.relisting.specs.Sweep.{sweep, sweep-row}
 use Rattle.records.specs.declared.Due.the-variants.{Row}
 use Rattle.records.specs.Layout as at
 use Rattle.records.specs.Answers.{accepted}
-use Rattle.records.specs.Records.{recordLength, recordAt, records}
+use Rattle.records.specs.Records.{recordLength, records}
 use Rattle.frame.specs.Frames.{countN, countR, modeOf, resweepsOf, rowsAt, points, rows}
 use Rattle.frame.specs.Check.{checkOf}
 use Rattle.acceptance.specs.Whole.{row, Good, Chain}
 use Rattle.acceptance.proofs.Wholes.{accepted-whole}
-use Rattle.stored.specs.Points.{Points, mainStep, resweepStep}
+use Rattle.stored.specs.Points.{Points, mainStep}
 use Rattle.stored.specs.Run.{updates, warms, warmCoefficient, leastStrain, swept, leaves}
 use Rattle.demand.proofs.Laid.{ran}
-use Rattle.unassigned.specs.Assigned.{Outside, when, assignedInUpdate, assignedInWarm, assignedInSolve}
+use Rattle.unassigned.specs.Assigned.{Outside}
 use Rattle.unassigned.specs.Stays.{assignedInMain, met, assignedInRun, KeepTheirBytes, OldPosStays}
-use Rattle.unassigned.proofs.Beside.{outside-split}
 use Rattle.unassigned.proofs.Sweeps.{solve-by-kind, solve-outside, main-leaves, main-kind, swept-again}
 use Rattle.unassigned.proofs.Skipped.{main-out}
 

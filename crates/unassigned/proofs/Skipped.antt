@@ -1,7 +1,7 @@
 -- The position of a place that names nobody is among the bytes that no phase assigns. Assumes nothing.
-use Prim.Native.Nat.{ℕ, _+_, _*_, _<_, _≤_}
-use mathlib.Core.Path.{_≡_, refl, sym, ap, _∙_, subst}
-use mathlib.Core.Logic.{_⊎_, inl, inr}
+use Prim.Native.Nat.{ℕ, _+_, _*_, _<_}
+use mathlib.Core.Path.{_≡_, sym, ap, subst}
+use mathlib.Core.Logic.{inl, inr}
 use mathlib.Core.Bool.{Bool, true, false, cond, not}
 use mathlib.Core.List.{List, [], _∷_, _++_}
 use native.Mathlib.Omega.{arith}
@@ -18,7 +18,7 @@ use Rattle.rows.specs.Row.{nobody, places, holdsOf}
 use Rattle.stored.specs.Phases.{namesAt}
 use Rattle.stored.specs.Points.{Points, position}
 use Rattle.stored.specs.PhaseLaws.{namesOn, names-are, positionsOn}
-use Rattle.unassigned.specs.Assigned.{Field, floats, _and_, when, Out, Outside, positions, gradients, scalarUpdate, poseUpdate, volumeUpdate, blockUpdate, isStillFresh, assignedInUpdate, assignedInWarm, assignedInSolve}
+use Rattle.unassigned.specs.Assigned.{Field, floats, _and_, when, Outside, positions, gradients, scalarUpdate, poseUpdate, volumeUpdate, blockUpdate, isStillFresh, assignedInUpdate, assignedInWarm, assignedInSolve}
 use Rattle.unassigned.specs.Stays.{assignedInMain}
 
 outside-join : (k : ℕ) (fs gs : List Field) → Outside k fs → Outside k gs → Outside k (fs ++ gs)
@@ -88,9 +88,22 @@ module _ (p j : ℕ) (four : p < 4) (few : j < 12) where
 
     scalar-out : (type : ℕ) → Outside byte (scalarUpdate held type)
     unfolding scalarUpdate
-    scalar-out type =
-        (inr (omega arith), (inl (omega arith), (inl (omega arith), (inl (omega arith), (inl (omega arith),
-        outside-join byte (positions held) _ positions-out (gradients-out type))))))
+    scalar-out type = (
+      inr (omega arith),
+      (
+        inl (omega arith),
+        (
+          inl (omega arith),
+          (
+            inl (omega arith),
+            (
+              inl (omega arith),
+              outside-join byte (positions held) _ positions-out (gradients-out type),
+            ),
+          ),
+        ),
+      ),
+    )
 
     pose-out : Outside byte (poseUpdate held)
     unfolding poseUpdate

@@ -1,23 +1,21 @@
 -- A main step and the resweeps leave every byte of a row that they do not assign. Assumes nothing.
-use Prim.Native.Nat.{ℕ, zero, suc, _<_}
+use Prim.Native.Nat.{ℕ, zero, suc}
 use mathlib.Core.Path.{_≡_, refl, sym, ap, _∙_, subst}
-use mathlib.Core.Bool.{Bool, true, false, cond}
+use mathlib.Core.Bool.{Bool, true, false}
 use mathlib.Core.List.{List, [], _∷_}
-use lib.Dec.{eqb}
-use lib.ListN.{length, getD, replicate}
+use lib.ListN.{getD, replicate}
 use lib.Ieee.{Float}
 use Rattle.bytes.specs.Bytes.{le16}
 use Rattle.bytes.proofs.Parts.{Bytes}
 use Rattle.relisting.specs.Build.{pick, nothing}
 use Rattle.relisting.specs.Sweep.{sweep, sweeps}
 use Rattle.records.specs.declared.Due.the-variants.{Row}
-use Rattle.rows.specs.Step as step
 use Rattle.acceptance.specs.Whole.{row, Good}
 use Rattle.stored.specs.Read.{rowOf}
 use Rattle.stored.specs.Points.{Points, only, update, warm, solve, mainStep, resweepStep}
 use Rattle.stored.specs.PhaseLaws.{positionsOn, velocitiesOn, update-is, warm-is, solve-is}
 use Rattle.stored.specs.Sizes.{alike-kind, update-steady, warm-steady, solve-steady}
-use Rattle.unassigned.specs.Assigned.{Field, when, _and_, Outside, assignedInUpdate, assignedInWarm, assignedInSolve}
+use Rattle.unassigned.specs.Assigned.{Field, when, Outside, assignedInUpdate, assignedInWarm, assignedInSolve}
 use Rattle.unassigned.specs.Stays.{assignedInMain}
 use Rattle.unassigned.proofs.Beside.{outside-split}
 use Rattle.unassigned.proofs.Impulses.{warm-leaves, solve-leaves}

@@ -1,7 +1,7 @@
 -- An update leaves every byte that it does not assign. Assumes nothing.
-use Prim.Native.Nat.{ℕ, _+_, _<_, _≤_}
+use Prim.Native.Nat.{ℕ}
 use mathlib.Core.Path.{_≡_, refl, _∙_}
-use mathlib.Core.Logic.{_⊎_, inl, inr}
+use mathlib.Core.Logic.{inr}
 use mathlib.Core.Bool.{Bool, true, false, cond, not}
 use mathlib.Core.List.{List}
 use native.Mathlib.Omega.{arith}
@@ -14,7 +14,6 @@ use Rattle.bytes.proofs.Parts.{Bytes}
 use Rattle.vector.specs.declared.Four.{Four}
 use Rattle.places.specs.declared.Holds.{Holds}
 use Rattle.places.specs.Places.{refreshed}
-use Rattle.gradients.specs.Gradients.{computeGradients}
 use Rattle.scalar.specs.Row as s
 use Rattle.scalar.specs.declared.Response.{Response}
 use Rattle.scalar.specs.declared.SoftScalarConstraint.{SoftScalarConstraint}
@@ -24,18 +23,17 @@ use Rattle.corotational.specs.Row as c
 use Rattle.corotational.specs.declared.Volume.{Volume}
 use Rattle.corotational.specs.declared.CorotationalRow.{CorotationalRow}
 use Rattle.neo_hookean.specs.Row as n
-use Rattle.neo_hookean.specs.NeoHookean.{isFresh}
 use Rattle.neo_hookean.specs.declared.NeoHookeanRow.{NeoHookeanRow}
 use Rattle.records.specs.declared.Due.the-variants.{Row}
 use Rattle.records.specs.Layout as at
-use Rattle.rows.specs.Row.{Constraint, scalar, corotational, neoHookean}
+use Rattle.rows.specs.Row.{Constraint}
 use Rattle.rows.specs.Step.{updateOf, strainedOf}
-use Rattle.floats.specs.Fields.{fourAt, floatsAt, putF32, putFour, putMat3, putQuat, putFloats}
+use Rattle.floats.specs.Fields.{fourAt, putF32, putFour, putMat3, putQuat, putFloats}
 use Rattle.acceptance.specs.Whole.{Good}
-use Rattle.stored.specs.Read.{scalarOf, responseAt, springAt, cellOf, poseOf, corotationalOf, stiffnessOf, neoHookeanOf, constraintOf}
+use Rattle.stored.specs.Read.{scalarOf, springAt, poseOf, corotationalOf, neoHookeanOf, constraintOf}
 use Rattle.stored.specs.Put.{putFlag, putResponse, putScalar, putPose, putVolume, putCorotational, putRenewed, putBlock, putNeoHookean, putConstraint}
 use Rattle.stored.specs.Phases.{updateRow}
-use Rattle.unassigned.specs.Assigned.{floats, flag, _and_, when, Out, Outside, positions, gradients, scalarUpdate, poseUpdate, volumeUpdate, blockUpdate, isStillFresh, assignedInUpdate}
+use Rattle.unassigned.specs.Assigned.{floats, flag, _and_, when, Out, Outside, positions, scalarUpdate, poseUpdate, volumeUpdate, blockUpdate, isStillFresh, assignedInUpdate}
 use Rattle.unassigned.proofs.Beside.{outside-split, flag-beside, f32-beside, four-beside, mat3-beside, quat-beside, floats-beside}
 use Rattle.unassigned.proofs.Back.{Agree, Finite12, bytes-put-flag, bytes-put-four, positions-stay, gradients-stay}
 use Rattle.unassigned.proofs.Finite.{good-pos, good-grad}
