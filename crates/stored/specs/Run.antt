@@ -10,7 +10,7 @@ use Rattle.records.specs.declared.Answer.{Answer}
 use Rattle.records.specs.Records.{flatten}
 use Rattle.frame.specs.Frames.{countN, modeOf, resweepsOf, head, points, rows}
 use Rattle.frame.specs.Check.{checkOf}
-use Rattle.relisting.specs.Sweep.{run}
+use Rattle.relisting.specs.Steps.{run}
 use Rattle.stored.specs.Points.{Points, mainStep, resweepStep}
 
 -- mode bit 0: update; bit 1: warm start. The mode of an accepted frame is 0 to 3

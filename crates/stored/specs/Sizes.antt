@@ -10,8 +10,7 @@ use lib.Ieee.{Float}
 use lib.ListN.{length, getD, replicate}
 use Rattle.bytes.specs.Bytes.{le16, le32, f32Bytes, bytes2}
 use Rattle.bytes.proofs.Patch.{length-patch, sets-below}
-use Rattle.relisting.specs.Build.{fetch, alter, alters, _then_, pick, choose, nothing}
-use Rattle.relisting.specs.Sweep.{sweep, sweeps, run}
+use Rattle.relisting.specs.Steps.{fetch, alter, alters, _then_, pick, choose, nothing, sweep, sweeps, run}
 use Rattle.vector.specs.Vector.{sub}
 use Rattle.vector.specs.declared.Vec3.{Vec3}
 use Rattle.places.specs.declared.Holds.{Holds}

@@ -7,7 +7,7 @@ use native.Mathlib.Omega.{arith}
 use native.Mathlib.Nat.{sub-zero}
 use lib.ListN.{length, replicate}
 use Rattle.records.proofs.Rest.{sub-turn}
-use Rattle.relisting.specs.Sweep.{sweep, sweeps, run}
+use Rattle.relisting.specs.Steps.{sweep, sweeps, run}
 use Rattle.stored.specs.Points.{Points, resweepStep, mainStep}
 use Rattle.stored.specs.Sizes.{Steady, resweep-steady}
 use Rattle.sweep.specs.Laid.{stepOf, Laid, Ready, Swept, Reswept, Ran}
