@@ -7,7 +7,8 @@ use native.Mathlib.Nat.{not-suc-le-zero, le-of-suc-le-suc}
 use lib.ListN.{length, getD, take, drop}
 use Rattle.bytes.specs.Bytes.{le16}
 use Rattle.bytes.proofs.Parts.{Bytes}
-use Rattle.relisting.specs.Sweep.{sweep, sweep-row}
+use Rattle.relisting.specs.Steps.{sweep}
+use Rattle.relisting.specs.Sweep.{sweep-row}
 use Rattle.records.specs.declared.Due.the-variants.{Row}
 use Rattle.records.specs.Layout as at
 use Rattle.records.specs.Answers.{accepted}

@@ -10,7 +10,7 @@ use lib.Dec.{eqb}
 use lib.ListN.{getD}
 use borrow.Author.Tests.{eq-eqb}
 use Rattle.bytes.specs.Bytes.{le16}
-use Rattle.relisting.specs.Build.{fetch}
+use Rattle.relisting.specs.Steps.{fetch}
 use Rattle.places.specs.declared.Ids.{Ids}
 use Rattle.places.specs.declared.Holds.{Holds}
 use Rattle.records.specs.Layout as at

@@ -7,8 +7,7 @@ use lib.ListN.{getD, replicate}
 use lib.Ieee.{Float}
 use Rattle.bytes.specs.Bytes.{le16}
 use Rattle.bytes.proofs.Parts.{Bytes}
-use Rattle.relisting.specs.Build.{pick, nothing}
-use Rattle.relisting.specs.Sweep.{sweep, sweeps}
+use Rattle.relisting.specs.Steps.{pick, nothing, sweep, sweeps}
 use Rattle.records.specs.declared.Due.the-variants.{Row}
 use Rattle.acceptance.specs.Whole.{row, Good}
 use Rattle.stored.specs.Read.{rowOf}

@@ -5,8 +5,7 @@ use mathlib.Core.Bool.{Bool, true, false}
 use mathlib.Core.List.{List, [], _∷_}
 use lib.ListN.{getD, replicate}
 use lib.Ieee.{Float}
-use Rattle.relisting.specs.Build.{alter, alters, pick, nothing}
-use Rattle.relisting.specs.Sweep.{sweep, sweeps}
+use Rattle.relisting.specs.Steps.{alter, alters, pick, nothing, sweep, sweeps}
 use Rattle.vector.specs.Vector.{sub}
 use Rattle.vector.specs.declared.Vec3.{Vec3}
 use Rattle.records.specs.Layout as at
