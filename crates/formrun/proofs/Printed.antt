@@ -9,7 +9,6 @@ use lib.Dec.{ltb, leb, lit≤}
 use lib.ListN.{length, take, length-append}
 use borrow.Author.Tests.{lt-ltb, le-ltb, leb-true, leb-false}
 use Rattle.io.specs.Digits.{digits, glyph, Fewest}
-use Rattle.records.specs.declared.Answer.{Answer}
 use Rattle.formrun.specs.Output.{decimalIn, decimal, refusal, refusedWord, atWord, newline, Added}
 
 -- the last digit
@@ -73,9 +72,9 @@ module _ (t t′ : List ℕ) (at : ℕ) (s : List ℕ) (r : ℕ) (s₁ : List �
     }
 
 -- the line of a refusal, part by part
-module _ (a : Answer) (s : List ℕ) (r₁ : ℕ) (s₁ : List ℕ) (r₂ : ℕ) (s₂ : List ℕ) (r₃ : ℕ) (s₃ : List ℕ) (r₄ : ℕ) (s₄ : List ℕ) (r₅ : ℕ) (s₅ : List ℕ) where
-  pub line : Added refusedWord 0 s r₁ s₁ → Added (decimal (a .number)) r₁ s₁ r₂ s₂ → Added atWord r₂ s₂ r₃ s₃ → Added (decimal (a .place)) r₃ s₃ r₄ s₄ → Added newline r₄ s₄ r₅ s₅
-      → Added (refusal a) 0 s r₅ s₅
+module _ (number place : ℕ) (s : List ℕ) (r₁ : ℕ) (s₁ : List ℕ) (r₂ : ℕ) (s₂ : List ℕ) (r₃ : ℕ) (s₃ : List ℕ) (r₄ : ℕ) (s₄ : List ℕ) (r₅ : ℕ) (s₅ : List ℕ) where
+  pub line : Added refusedWord 0 s r₁ s₁ → Added (decimal number) r₁ s₁ r₂ s₂ → Added atWord r₂ s₂ r₃ s₃ → Added (decimal place) r₃ s₃ r₄ s₄ → Added newline r₄ s₄ r₅ s₅
+      → Added (refusal number place) 0 s r₅ s₅
   unfolding refusal
   line h₁ h₂ h₃ h₄ h₅ =
-      chain refusedWord _ 0 s r₁ s₁ r₅ s₅ h₁ (chain (decimal (a .number)) _ r₁ s₁ r₂ s₂ r₅ s₅ h₂ (chain atWord _ r₂ s₂ r₃ s₃ r₅ s₅ h₃ (chain (decimal (a .place)) newline r₃ s₃ r₄ s₄ r₅ s₅ h₄ h₅)))
+      chain refusedWord _ 0 s r₁ s₁ r₅ s₅ h₁ (chain (decimal number) _ r₁ s₁ r₂ s₂ r₅ s₅ h₂ (chain atWord _ r₂ s₂ r₃ s₃ r₅ s₅ h₃ (chain (decimal place) newline r₃ s₃ r₄ s₄ r₅ s₅ h₄ h₅)))

@@ -23,7 +23,7 @@ module _ (s : List ℕ) (len : ℕ) where
     accepted fits short e l same ok =
         rw (length-take-le len s fits, le-ltb 65536 len short, ← e, eq-eqb (a .number) 0 ok, ← l) (take-at p (drop len s) len same)
 
-    pub refused : (r : ℕ) (s′ : List ℕ) → len ≤ length s → len ≤ 65536 → a ≡ checkOf (take len s) → (a .number ≡ 0 → ⊥) → Added (refusal a) 0 p r s′
+    pub refused : (r : ℕ) (s′ : List ℕ) → len ≤ length s → len ≤ 65536 → a ≡ checkOf (take len s) → (a .number ≡ 0 → ⊥) → Added (refusal (a .number) (a .place)) 0 p r s′
         → take r s′ ≡ outputOf (take len s)
     unfolding outputOf
     refused r s′ fits short e bad h =

@@ -5,7 +5,6 @@ use mathlib.Core.Bool.{cond}
 use mathlib.Core.List.{List, [], _∷_, _++_}
 use lib.ListN.{length, take}
 use lib.Dec.{ltb, eqb}
-use Rattle.records.specs.declared.Answer.{Answer}
 use Rattle.frame.specs.Check.{checkOf}
 use Rattle.stored.specs.Run.{leaves}
 
@@ -32,12 +31,12 @@ abbrev pub newline : List ℕ
 newline = 10 ∷ []
 
 -- `refused NUMBER at PLACE` and a newline
-unfoldable pub refusal : Answer → List ℕ
-refusal a = refusedWord ++ (decimal (a .number) ++ (atWord ++ (decimal (a .place) ++ newline)))
+unfoldable pub refusal : ℕ → ℕ → List ℕ
+refusal number place = refusedWord ++ (decimal number ++ (atWord ++ (decimal place ++ newline)))
 
 -- more than 65,536 bytes are too long for a frame; a frame that check accepts is written as the run leaves it; one that it refuses gives the line
 unfoldable pub outputOf : List ℕ → List ℕ
-outputOf s = cond (ltb 65536 (length s)) tooLong (cond (eqb (checkOf s .number) 0) (leaves s) (refusal (checkOf s)))
+outputOf s = cond (ltb 65536 (length s)) tooLong (cond (eqb (checkOf s .number) 0) (leaves s) (refusal (checkOf s .number) (checkOf s .place)))
 
 -- text stands in s′ behind the first `at` bytes of s, and ends at r
 pub record Added (text : List ℕ) (at : ℕ) (s : List ℕ) (r : ℕ) (s′ : List ℕ) : Type 0 where

@@ -8,7 +8,6 @@ ghost use Prim.Native.Nat.{ℕ, _+_, _-_, _≤_};
 ghost use lib.ListN.{length, take};
 ghost use Rattle.formrun.specs.Reading.{Within, Kept};
 ghost use Rattle.formrun.specs.Output.{outputOf, refusal, decimal, Added};
-use records::Answer;
 
 // One byte more than a frame may have: a buffer that is full shows that the input is too long.
 const ROOM: usize = 65537;
@@ -72,15 +71,15 @@ fn put_decimal(buf: &mut [u8], at: usize, n: u64) -> usize
 }
 
 // The line of a refusal, at the start of buf: the answer is its length.
-fn put_refusal(buf: &mut [u8], a: Answer) -> usize
+fn put_refusal(buf: &mut [u8], number: u64, place: u64) -> usize
     requires { ⌜ 53 ≤ length (now buf) ⌝ }
-    ensures { λ r. ⌜ Added (refusal a) 0 (now (buf .entry)) r (now (buf .exit)) ⌝ }
+    ensures { λ r. ⌜ Added (refusal number place) 0 (now (buf .entry)) r (now (buf .exit)) ⌝ }
 {
-    let word = put(buf, 0, b"refused ");
-    let number = put_decimal(buf, word, a.number as u64);
-    let at = put(buf, number, b" at ");
-    let place = put_decimal(buf, at, a.place);
-    put(buf, place, b"\n")
+    let mut end = put(buf, 0, b"refused ");
+    end = put_decimal(buf, end, number);
+    end = put(buf, end, b" at ");
+    end = put_decimal(buf, end, place);
+    put(buf, end, b"\n")
 }
 
 // Runs the frame that the first len bytes of buf are, and lays what is to be written at the start of buf: the answer is its length.
@@ -95,7 +94,7 @@ fn answer(buf: &mut [u8], len: usize) -> usize
     if a.number == 0 {
         return len;
     }
-    put_refusal(buf, a)
+    put_refusal(buf, a.number as u64, a.place)
 }
 
 // From the input to the output, by way of buf.

@@ -27,7 +27,7 @@ returns : tie.Need-returns
 returns c =
     let s = c .before .before .before .before .before .before .before in
     let p = c .before .before .put in
-    (p .ensures .within, longer (s .args .buf .now) (s .args .len) (p .result) (p .last .0) (s .pre .0) (c .before .before .before .before .before .if1 .taken) (p .ensures))
+    (p .ensures .within, longer (s .args .buf .now) (s .args .len) (p .result) (p .last .0) (s .pre .0) (omega (arith, c .before .before .before .before .before .if1 .taken)) (p .ensures))
 
 slice-relend-prefix-run : tie.Need-slice-relend-prefix-run
 slice-relend-prefix-run c = search needs
@@ -47,7 +47,10 @@ returns-2 c =
     let q = c .before .before .before .before .run in
     let same : length (q .last .0) ≡ length (take (s .args .len) (s .args .buf .now)) = q .kept .0 in
     let len : length (q .last .0) ≡ s .args .len = same ∙ length-take-le (s .args .len) (s .args .buf .now) (s .pre .0) in
-    (omega (arith, length-append (q .last .0) (drop (s .args .len) (s .args .buf .now))), accepted (s .args .buf .now) (s .args .len) (q .result) (q .last .0) (s .pre .0) (c .before .before .before .before .before .before .if1 .left) (q .ensures .0) (q .ensures .1) len (c .if2 .taken))
+    (omega (arith, length-append (q .last .0) (drop (s .args .len) (s .args .buf .now))), accepted (s .args .buf .now) (s .args .len) (q .result) (q .last .0) (s .pre .0) (omega (arith, c .before .before .before .before .before .before .if1 .left)) (q .ensures .0) (q .ensures .1) len (c .if2 .taken))
+
+cast-put-refusal : tie.Need-cast-put-refusal
+cast-put-refusal c = search needs
 
 put-refusal-requires : tie.Need-put-refusal-requires
 put-refusal-requires c κs = search needs
@@ -57,10 +60,10 @@ same-length-3 c = search needs
 
 returns-3 : tie.Need-returns-3
 returns-3 c =
-    let s = c .before .before .before .before .before .before .before .before .before .before .before .before in
-    let q = c .before .before .before .before .before .before .before .before .run in
+    let s = c .before .before .before .before .before .before .before .before .before .before .before .before .before in
+    let q = c .before .before .before .before .before .before .before .before .before .run in
     let p = c .before .before .put-refusal in
-    (p .ensures .within, refused (s .args .buf .now) (s .args .len) (q .result) (q .last .0 ++ drop (s .args .len) (s .args .buf .now)) (p .result) (p .last .0) (s .pre .0) (c .before .before .before .before .before .before .before .before .before .before .if1 .left) (q .ensures .0) (c .before .before .before .before .if2 .left) (p .ensures))
+    (p .ensures .within, refused (s .args .buf .now) (s .args .len) (q .result) (q .last .0 ++ drop (s .args .len) (s .args .buf .now)) (p .result) (p .last .0) (s .pre .0) (omega (arith, c .before .before .before .before .before .before .before .before .before .before .before .if1 .left)) (q .ensures .0) (c .before .before .before .before .before .if2 .left) (p .ensures))
 
 pub answer-spec : {M : Type 1} → statement M
 answer-spec =
@@ -75,6 +78,7 @@ answer-spec =
     run-requires
     same-length-2
     returns-2
+    cast-put-refusal
     put-refusal-requires
     same-length-3
     returns-3)

@@ -15,9 +15,6 @@ slice-aggregate-put c = search needs
 put-requires : tie.Need-put-requires
 put-requires c κs = search needs
 
-cast-put-decimal : tie.Need-cast-put-decimal
-cast-put-decimal c = search needs
-
 put-decimal-requires : tie.Need-put-decimal-requires
 put-decimal-requires c κs = search needs
 
@@ -25,40 +22,44 @@ slice-aggregate-put-2 : tie.Need-slice-aggregate-put-2
 slice-aggregate-put-2 c = search needs
 
 put-requires-2 : tie.Need-put-requires-2
-put-requires-2 c κs = let a = c .before .before .before .before .before .before .before .before .before .before .before .before .before .args .a in
-    omega (arith, decimal-length (a .number), c .before .before .before .before .put-decimal .ensures .ends)
+put-requires-2 c κs =
+    let n = c .before .before .before .before in
+    let w = n .before .before .before .before in
+    omega (arith, decimal-length (w .before .before .before .before .args .number), w .put .ensures .ends, n .put-decimal .ensures .ends)
 
 put-decimal-requires-2 : tie.Need-put-decimal-requires-2
 put-decimal-requires-2 c κs =
-    let q = c .before .before .before in
-    let p = q .before .before .before .before .before in
-    let u = p .before .before .before .before .before in
-    omega (arith, decimal-length (u .before .before .before .before .args .a .number), u .put .ensures .ends, p .put-decimal .ensures .ends, q .put2 .ensures .ends)
+    let a = c .before .before .before in
+    let n = a .before .before .before .before .before in
+    let w = n .before .before .before .before in
+    omega (arith, decimal-length (w .before .before .before .before .args .number), w .put .ensures .ends, n .put-decimal .ensures .ends, a .put2 .ensures .ends)
 
 slice-aggregate-put-3 : tie.Need-slice-aggregate-put-3
 slice-aggregate-put-3 c = search needs
 
 put-requires-3 : tie.Need-put-requires-3
 put-requires-3 c κs =
-    let r = c .before .before .before .before in
-    let q = r .before .before .before .before in
-    let p = q .before .before .before .before .before in
-    let u = p .before .before .before .before .before in
-    let a = u .before .before .before .before .args .a in
-    omega (arith, decimal-length (a .number), decimal-length (a .place), u .put .ensures .ends, p .put-decimal .ensures .ends, q .put2 .ensures .ends, r .put-decimal2 .ensures .ends)
+    let p = c .before .before .before .before in
+    let a = p .before .before .before .before in
+    let n = a .before .before .before .before .before in
+    let w = n .before .before .before .before in
+    let s = w .before .before .before .before .args in
+    omega (arith, decimal-length (s .number), decimal-length (s .place), w .put .ensures .ends, n .put-decimal .ensures .ends, a .put2 .ensures .ends, p .put-decimal2 .ensures .ends)
 
 same-length : tie.Need-same-length
 same-length c = search needs
 
 returns : tie.Need-returns
-returns c = let p = c .before .before in
-    let q = p .before .before .before .before .before in
-    let r = q .before .before .before .before in
-    let u = r .before .before .before .before .before in
-    let v = u .before .before .before .before .before in
-    line (v .before .before .before .before .args .a) (v .before .before .before .before .args .buf .now)
-        (v .put .result) (v .put .last .0) (u .put-decimal .result) (u .put-decimal .last .0) (r .put2 .result) (r .put2 .last .0) (q .put-decimal2 .result) (q .put-decimal2 .last .0) (p .put3 .result) (p .put3 .last .0)
-        (v .put .ensures) (u .put-decimal .ensures) (r .put2 .ensures) (q .put-decimal2 .ensures) (p .put3 .ensures)
+returns c =
+    let e = c .before .before in
+    let p = e .before .before .before .before .before in
+    let a = p .before .before .before .before in
+    let n = a .before .before .before .before .before in
+    let w = n .before .before .before .before in
+    let s = w .before .before .before .before .args in
+    line (s .number) (s .place) (s .buf .now)
+        (w .put .result) (w .put .last .0) (n .put-decimal .result) (n .put-decimal .last .0) (a .put2 .result) (a .put2 .last .0) (p .put-decimal2 .result) (p .put-decimal2 .last .0) (e .put3 .result) (e .put3 .last .0)
+        (w .put .ensures) (n .put-decimal .ensures) (a .put2 .ensures) (p .put-decimal2 .ensures) (e .put3 .ensures)
 
 pub put-refusal-spec : {M : Type 1} → statement M
 put-refusal-spec =
@@ -66,7 +67,6 @@ put-refusal-spec =
     (tie.spec
     slice-aggregate-put
     put-requires
-    cast-put-decimal
     put-decimal-requires
     slice-aggregate-put-2
     put-requires-2
