@@ -1,4 +1,5 @@
-// The phases of a corotational row on the bytes of its record, in place. Each reads what it uses and writes what it assigns.
+// The phases of a corotational row on the bytes of its record, in place. Each reads what it uses and writes what it assigns. An update writes all of
+// `pos`: a position that is not fetched as it was read.
 ghost use mathlib.Core.Path.{_≡_};
 ghost use Prim.Native.Nat.{_≤_};
 ghost use lib.ListN.{length};

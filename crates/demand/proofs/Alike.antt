@@ -7,7 +7,7 @@ use lib.Ieee.{binary32, ofBits}
 use lib.ListN.{length, getElem?}
 use Rattle.bytes.specs.Bytes.{le32}
 use Rattle.relisting.specs.Build.{points-equal}
-use Rattle.relisting.specs.Sweep.{run}
+use Rattle.relisting.specs.Steps.{run}
 use Rattle.relisting.specs.Relist.{relisted-run}
 use Rattle.records.specs.Answers.{accepted}
 use Rattle.clash.specs.Clash.{overflow}

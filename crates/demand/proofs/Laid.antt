@@ -18,7 +18,7 @@ use Rattle.frame.specs.Check.{checkOf}
 use Rattle.acceptance.specs.Whole.{Whole}
 use Rattle.acceptance.proofs.Parsing.{AllFit, parted, chain-fits, as-many}
 use Rattle.acceptance.proofs.Wholes.{accepted-whole, head-length}
-use Rattle.relisting.specs.Sweep.{run}
+use Rattle.relisting.specs.Steps.{run}
 use Rattle.stored.specs.Run.{updates, warms, warmCoefficient, leastStrain, lay, swept, runOf, leaves}
 use Rattle.stored.specs.Points.{mainStep, resweepStep}
 use Rattle.stored.specs.Sizes.{Same, alike-length, same-length, main-steady, resweep-steady, run-rows, run-points}

@@ -3,12 +3,12 @@ use Prim.Native.Nat.{ℕ, _<_}
 use mathlib.Core.Path.{_≡_}
 use mathlib.Core.List.{List, _++_}
 use lib.ListN.{length}
-use Rattle.records.specs.Answers as answers
+use Rattle.records.specs.Answers as answer
 use Rattle.records.specs.Records.{flatten}
 use Rattle.frame.specs.Frames.{head, points, rows}
 use Rattle.frame.specs.Check.{checkOf}
 use Rattle.acceptance.specs.Whole.{row}
-use Rattle.stored.specs.Run.{leaves, swept}
+use Rattle.stored.specs.Run.{answers, leaves, swept}
 use Rattle.stored.specs.Sizes.{Same}
 use Rattle.demand.specs.Relisted.{Relisting}
 
@@ -24,9 +24,9 @@ pub record Ran (A : List ℕ) : Type 0 where
 -- B, whose rows are paired with those of A by σ, is run as A is
 pub record RunsAlike (A B : List ℕ) (σ : ℕ → ℕ) : Type 0 where
   -- check returns 0 at 0 for B
-  pub accepted : checkOf B ≡ answers.accepted
-  -- run returns the same number and place, which are those of check
-  pub same-answer : checkOf A ≡ checkOf B
+  pub accepted : checkOf B ≡ answer.accepted
+  -- run returns the same number and place
+  pub same-answer : answers A ≡ answers B
   -- and leaves the same bytes in both heads, in each point, and in the two rows of each pair
   pub same-head : head (leaves A) ≡ head (leaves B)
   pub same-points : points (leaves A) ≡ points (leaves B)
@@ -34,4 +34,4 @@ pub record RunsAlike (A B : List ℕ) (σ : ℕ → ℕ) : Type 0 where
 
 -- for every accepted A, every relisting B of it and every such pairing
 abbrev pub Demand3 : Type 0
-Demand3 = (A B : List ℕ) (bs : List (List ℕ)) (σ τ : ℕ → ℕ) → checkOf A ≡ answers.accepted → Relisting A B bs σ τ → RunsAlike A B σ
+Demand3 = (A B : List ℕ) (bs : List (List ℕ)) (σ τ : ℕ → ℕ) → checkOf A ≡ answer.accepted → Relisting A B bs σ τ → RunsAlike A B σ

@@ -13,7 +13,7 @@ use borrow.Author.Tests.{ltb-true, ltb-false}
 use Rattle.bytes.specs.Bytes.{part}
 use Rattle.bytes.proofs.Parts.{part-middle}
 use Rattle.records.specs.Records.{flatten}
-use Rattle.relisting.specs.Build.{fetch, alter, alters}
+use Rattle.relisting.specs.Steps.{fetch, alter, alters}
 use Rattle.vector.specs.Vector.{zeroVector}
 use Rattle.vector.specs.declared.Vec3.{Vec3}
 use Rattle.vector.specs.declared.Four.{Four}

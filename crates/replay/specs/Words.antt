@@ -4,9 +4,9 @@ use mathlib.Core.Bool.{Bool, true, _&&_}
 use mathlib.Core.List.{List, [], _∷_}
 use lib.Dec.{eqb}
 use lib.Ieee.{Float, binary32, ofBits, toBits}
-use lib.ListN.{getD}
+use lib.ListN.{getD, set, replicate}
 use Rattle.bytes.specs.Bytes.{le32}
-use Rattle.loops.specs.Fill.{tabulate, Filled}
+use Rattle.loops.specs.Fill.{tabulate}
 use Rattle.loops.specs.Loops.{upTo}
 use Rattle.real.specs.Float.{at}
 use Rattle.vector.specs.declared.Vec3.{Vec3}
@@ -14,9 +14,9 @@ use Rattle.vector.specs.declared.Mat3.{Mat3}
 use Rattle.vector.specs.declared.Quat.{Quat}
 use Rattle.vector.specs.declared.Four.{Four}
 
--- w starts with the `size` words of the bytes from `from` on
-abbrev pub RecordAt : List ℕ → ℕ → ℕ → List ℕ → Type 0
-RecordAt s from size w = Filled 0 (λ k. le32 s (from + 4 * k)) 400 w size
+-- a record: the `size` words of the bytes from `from` on, and zeros up to 400
+unfoldable pub wordsAt : List ℕ → ℕ → ℕ → List ℕ
+wordsAt s from size = upTo size (λ k w. set w k (le32 s (from + 4 * k))) (replicate 400 0)
 
 -- ---- what the words from k on say
 

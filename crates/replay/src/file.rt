@@ -1,9 +1,10 @@
 // Reading a file of records, and reporting on it.
 ghost use mathlib.Core.Path.{_≡_};
-ghost use Prim.Native.Nat.{_+_, _*_, _%_, _^_, _≤_};
+ghost use Prim.Native.Nat.{_+_, _*_, _≤_};
 ghost use lib.ListN.{length};
 ghost use Rattle.io.specs.Counts.{Counts};
-ghost use Rattle.replay.specs.Words.{RecordAt};
+ghost use Rattle.replay.specs.Tallies.{plus};
+ghost use Rattle.replay.specs.Words.{wordsAt};
 
 // How many records were replayed, and of how many the answer differs from what was stored.
 pub struct Tally {
@@ -13,8 +14,7 @@ pub struct Tally {
 
 // The sums wrap only past any file's records.
 pub fn add(t: Tally, u: Tally) -> Tally
-    ensures { λ r. ⌜ r .records ≡ (t .records + u .records) % 2 ^ 64 ⌝ }
-    ensures { λ r. ⌜ r .differ ≡ (t .differ + u .differ) % 2 ^ 64 ⌝ }
+    ensures { λ r. ⌜ r ≡ plus t u ⌝ }
 {
     Tally {
         records: std::num::wrapping_add_u64(t.records, u.records),
@@ -35,7 +35,7 @@ pub fn read(name: &[u8], buf: &mut [u8]) -> usize
 // The `size` words from byte `from` on.
 pub fn record(s: &[u8], from: usize, size: usize) -> [u32; 400]
     requires { ⌜ (from + 4 * size ≤ length (now s)) × (size ≤ 400) ⌝ }
-    ensures { λ r. ⌜ RecordAt (now (s .entry)) from size r ⌝ }
+    ensures { λ r. ⌜ r ≡ wordsAt (now (s .entry)) from size ⌝ }
 {
     let mut w = [0u32; 400];
     let mut k: usize = 0;
@@ -46,6 +46,7 @@ pub fn record(s: &[u8], from: usize, size: usize) -> [u32; 400]
     w
 }
 
+// It only writes, which no contract can say.
 pub fn report(name: &[u8], t: Tally) {
     io::write_all(1, name);
     io::write_all(1, b": ");

@@ -6,7 +6,10 @@ mod of_shape;
 mod of_strain;
 mod of_vector;
 
+ghost use mathlib.Core.Path.{_≡_};
 ghost use Prim.Native.Nat.{_≤_};
+ghost use Rattle.replay.specs.Tallies.{miss, Tallied, Replayed};
+ghost use Rattle.replay_arith.specs.Agrees.{agreed};
 use of_matrix::Matrix;
 use of_real::Real;
 use of_shape::Shape;
@@ -23,6 +26,7 @@ enum Function {
     Shape(Shape),
 }
 
+// It only writes, which no contract can say.
 fn main() {
     let t = Tally {
         records: 0,
@@ -39,6 +43,7 @@ fn main() {
 // Replays the file of a function, whose records have `size` words, and adds what came of it to `t`.
 fn replay_file(t: Tally, name: &[u8], f: Function, size: usize) -> Tally
     requires { ⌜ (1 ≤ size) × (size ≤ 400) ⌝ }
+    ensures { λ r. ⌜ Replayed (agreed f) size t r ⌝ }
 {
     let mut buf = io::large_buffer();
     let n = replay::read(name, &mut buf);
@@ -49,7 +54,7 @@ fn replay_file(t: Tally, name: &[u8], f: Function, size: usize) -> Tally
 
 fn walk(s: &[u8], f: Function, size: usize) -> Tally
     requires { ⌜ (1 ≤ size) × (size ≤ 400) ⌝ }
-    ensures { λ r. ⌜ r .differ ≤ r .records ⌝ }
+    ensures { λ r. ⌜ Tallied (agreed f) (now (s .entry)) size r ⌝ }
 {
     let mut records: u64 = 0;
     let mut differ: u64 = 0;
@@ -65,12 +70,14 @@ fn walk(s: &[u8], f: Function, size: usize) -> Tally
 
 // 0 where the function answers as the record says, 1 where it does not.
 fn differs(f: Function, w: &[u32; 400]) -> u64
-    ensures { λ r. ⌜ r ≤ 1 ⌝ }
+    ensures { λ r. ⌜ (r ≡ miss (agreed f (now (w .entry)))) × (r ≤ 1) ⌝ }
 {
     if agrees(f, w) { 0 } else { 1 }
 }
 
-fn agrees(f: Function, w: &[u32; 400]) -> bool {
+fn agrees(f: Function, w: &[u32; 400]) -> bool
+    ensures { λ r. ⌜ r ≡ agreed f (now (w .entry)) ⌝ }
+{
     match f {
         Function::Real(f) => of_real::agrees(f, w),
         Function::Vector(f) => of_vector::agrees(f, w),

@@ -1,4 +1,7 @@
 // The functions of the crate `vector` on matrices and quaternions.
+ghost use mathlib.Core.Path.{_≡_};
+ghost use Rattle.replay.specs.Tallies.{Through};
+ghost use Rattle.replay_arith.specs.OfMatrix as spec;
 use crate::Function;
 use crate::replay_file;
 use replay::Tally;
@@ -28,7 +31,9 @@ pub(crate) enum Matrix {
 }
 
 // Each with the words of its records.
-pub(crate) fn all(t: Tally) -> Tally {
+pub(crate) fn all(t: Tally) -> Tally
+    ensures { λ r. ⌜ Through spec.files t r ⌝ }
+{
     let t = replay_file(t, b"mul_vec.bin", Function::Matrix(Matrix::MulVec), 15);
     let t = replay_file(t, b"mul_mat.bin", Function::Matrix(Matrix::MulMat), 27);
     let t = replay_file(t, b"add_mat.bin", Function::Matrix(Matrix::AddMat), 27);
@@ -43,7 +48,9 @@ pub(crate) fn all(t: Tally) -> Tally {
 }
 
 // Whether the function's answer to the record's first words is what stands after them.
-pub(crate) fn agrees(f: Matrix, w: &[u32; 400]) -> bool {
+pub(crate) fn agrees(f: Matrix, w: &[u32; 400]) -> bool
+    ensures { λ r. ⌜ r ≡ spec.ofMatrix f (now (w .entry)) ⌝ }
+{
     match f {
         Matrix::MulVec => vec3_is(w, 12, matrix::mul_vec(mat3(w, 0), vec3(w, 9))),
         Matrix::MulMat => mat3_is(w, 18, matrix::mul_mat(mat3(w, 0), mat3(w, 9))),

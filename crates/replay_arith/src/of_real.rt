@@ -1,5 +1,8 @@
 // The functions of the crates `root` and `real`.
+ghost use mathlib.Core.Path.{_≡_};
 ghost use Prim.Native.Nat.{_+_, _≤_};
+ghost use Rattle.replay.specs.Tallies.{Through};
+ghost use Rattle.replay_arith.specs.OfReal as spec;
 use crate::Function;
 use crate::replay_file;
 use real::SinCos;
@@ -20,7 +23,9 @@ pub(crate) enum Real {
 }
 
 // Each with the words of its records.
-pub(crate) fn all(t: Tally) -> Tally {
+pub(crate) fn all(t: Tally) -> Tally
+    ensures { λ r. ⌜ Through spec.files t r ⌝ }
+{
     let t = replay_file(t, b"root.bin", Function::Real(Real::Root), 2);
     let t = replay_file(t, b"sin_cos.bin", Function::Real(Real::SinCos), 3);
     let t = replay_file(t, b"acos.bin", Function::Real(Real::Acos), 2);
@@ -33,7 +38,9 @@ pub(crate) fn all(t: Tally) -> Tally {
 }
 
 // Whether the function's answer to the record's first words is what stands after them.
-pub(crate) fn agrees(f: Real, w: &[u32; 400]) -> bool {
+pub(crate) fn agrees(f: Real, w: &[u32; 400]) -> bool
+    ensures { λ r. ⌜ r ≡ spec.ofReal f (now (w .entry)) ⌝ }
+{
     match f {
         Real::Root => float_is(w, 1, root::root(float(w, 0))),
         Real::SinCos => sin_cos_is(w, 1, real::sin_cos(float(w, 0))),
@@ -49,6 +56,7 @@ pub(crate) fn agrees(f: Real, w: &[u32; 400]) -> bool {
 
 fn sin_cos_is(w: &[u32; 400], k: usize, r: SinCos) -> bool
     requires { ⌜ k + 2 ≤ 400 ⌝ }
+    ensures { λ b. ⌜ b ≡ spec.sinCosIs (now (w .entry)) k r ⌝ }
 {
     float_is(w, k, r.s) & float_is(w, k + 1, r.c)
 }

@@ -1,5 +1,8 @@
 // The functions of the crates `linalg` and `shape`.
+ghost use mathlib.Core.Path.{_≡_};
 ghost use Prim.Native.Nat.{_+_, _≤_};
+ghost use Rattle.replay.specs.Tallies.{Through};
+ghost use Rattle.replay_arith.specs.OfShape as spec;
 use crate::Function;
 use crate::replay_file;
 use linalg::Eigen;
@@ -27,7 +30,9 @@ pub(crate) enum Shape {
 }
 
 // Each with the words of its records.
-pub(crate) fn all(t: Tally) -> Tally {
+pub(crate) fn all(t: Tally) -> Tally
+    ensures { λ r. ⌜ Through spec.files t r ⌝ }
+{
     let t = replay_file(t, b"symmetric_eigen.bin", Function::Shape(Shape::SymmetricEigen), 21);
     let t = replay_file(t, b"cofactor.bin", Function::Shape(Shape::Cofactor), 18);
     let t = replay_file(t, b"outer_product.bin", Function::Shape(Shape::OuterProduct), 15);
@@ -38,7 +43,9 @@ pub(crate) fn all(t: Tally) -> Tally {
 }
 
 // Whether the function's answer to the record's first words is what stands after them.
-pub(crate) fn agrees(f: Shape, w: &[u32; 400]) -> bool {
+pub(crate) fn agrees(f: Shape, w: &[u32; 400]) -> bool
+    ensures { λ r. ⌜ r ≡ spec.ofShape f (now (w .entry)) ⌝ }
+{
     match f {
         Shape::SymmetricEigen => eigen_is(w, 9, linalg::symmetric_eigen(mat3(w, 0))),
         Shape::Cofactor => mat3_is(w, 9, linalg::cofactor(mat3(w, 0))),
@@ -52,6 +59,7 @@ pub(crate) fn agrees(f: Shape, w: &[u32; 400]) -> bool {
 
 fn eigen_is(w: &[u32; 400], k: usize, r: Eigen) -> bool
     requires { ⌜ k + 12 ≤ 400 ⌝ }
+    ensures { λ b. ⌜ b ≡ spec.eigenIs (now (w .entry)) k r ⌝ }
 {
     vec3_is(w, k, r.values) & mat3_is(w, k + 3, r.vectors)
 }

@@ -1,4 +1,7 @@
 // The functions of the crates `strain` and `inverse`.
+ghost use mathlib.Core.Path.{_≡_};
+ghost use Rattle.replay.specs.Tallies.{Through};
+ghost use Rattle.replay_arith.specs.OfStrain as spec;
 use crate::Function;
 use crate::replay_file;
 use replay::Tally;
@@ -26,7 +29,9 @@ pub(crate) enum Strain {
 }
 
 // Each with the words of its records.
-pub(crate) fn all(t: Tally) -> Tally {
+pub(crate) fn all(t: Tally) -> Tally
+    ensures { λ r. ⌜ Through spec.files t r ⌝ }
+{
     let t = replay_file(t, b"add6.bin", Function::Strain(Strain::Add6), 18);
     let t = replay_file(t, b"sub6.bin", Function::Strain(Strain::Sub6), 18);
     let t = replay_file(t, b"scale6.bin", Function::Strain(Strain::Scale6), 13);
@@ -43,7 +48,9 @@ pub(crate) fn all(t: Tally) -> Tally {
 }
 
 // Whether the function's answer to the record's first words is what stands after them.
-pub(crate) fn agrees(f: Strain, w: &[u32; 400]) -> bool {
+pub(crate) fn agrees(f: Strain, w: &[u32; 400]) -> bool
+    ensures { λ r. ⌜ r ≡ spec.ofStrain f (now (w .entry)) ⌝ }
+{
     match f {
         Strain::Add6 => six_is(w, 12, &strain::add6(&six(w, 0), &six(w, 6))),
         Strain::Sub6 => six_is(w, 12, &strain::sub6(&six(w, 0), &six(w, 6))),

@@ -1,4 +1,7 @@
 // The functions of the crate `vector` on vectors.
+ghost use mathlib.Core.Path.{_≡_};
+ghost use Rattle.replay.specs.Tallies.{Through};
+ghost use Rattle.replay_arith.specs.OfVector as spec;
 use crate::Function;
 use crate::replay_file;
 use replay::Tally;
@@ -21,7 +24,9 @@ pub(crate) enum Vector {
 }
 
 // Each with the words of its records.
-pub(crate) fn all(t: Tally) -> Tally {
+pub(crate) fn all(t: Tally) -> Tally
+    ensures { λ r. ⌜ Through spec.files t r ⌝ }
+{
     let t = replay_file(t, b"dot.bin", Function::Vector(Vector::Dot), 7);
     let t = replay_file(t, b"cross.bin", Function::Vector(Vector::Cross), 9);
     let t = replay_file(t, b"length.bin", Function::Vector(Vector::Length), 4);
@@ -35,7 +40,9 @@ pub(crate) fn all(t: Tally) -> Tally {
 }
 
 // Whether the function's answer to the record's first words is what stands after them.
-pub(crate) fn agrees(f: Vector, w: &[u32; 400]) -> bool {
+pub(crate) fn agrees(f: Vector, w: &[u32; 400]) -> bool
+    ensures { λ r. ⌜ r ≡ spec.ofVector f (now (w .entry)) ⌝ }
+{
     match f {
         Vector::Dot => float_is(w, 6, vector::dot(vec3(w, 0), vec3(w, 3))),
         Vector::Cross => vec3_is(w, 6, vector::cross(vec3(w, 0), vec3(w, 3))),

@@ -2,6 +2,7 @@
 use Prim.Native.Nat.{ℕ}
 use mathlib.Core.Bool.{cond}
 use lib.Dec.{eqb}
+use Rattle.records.specs.Layout.{scalarEnd, coroEnd, neoEnd}
 
 unfoldable pub rowLength : ℕ → ℕ
-rowLength kind = cond (eqb kind 3) 182 (cond (eqb kind 4) 618 678)
+rowLength kind = cond (eqb kind 3) scalarEnd (cond (eqb kind 4) coroEnd neoEnd)

@@ -18,7 +18,7 @@ use Rattle.frame.specs.Check.{frameTests, checkOf}
 use Rattle.acceptance.specs.Whole.{Good, Chain, Whole, InRange}
 use Rattle.acceptance.proofs.Parsing.{good-kind}
 use Rattle.acceptance.proofs.Wholes.{whole, in-range, head-length, point-length}
-use Rattle.relisting.specs.Sweep.{run}
+use Rattle.relisting.specs.Steps.{run}
 use Rattle.stored.specs.Points.{Points, resweepStep}
 use Rattle.stored.specs.Run.{lay, swept, runOf, leaves}
 use Rattle.points.specs.InFrame.{Sized}

@@ -3,7 +3,7 @@ ghost use mathlib.Core.Path.{_≡_};
 ghost use Prim.Native.Nat.{ℕ, _≤_};
 ghost use lib.ListN.{length};
 ghost use Rattle.frame.specs.Check.{checkOf};
-ghost use Rattle.stored.specs.Run.{leaves};
+ghost use Rattle.stored.specs.Run.{answers, leaves};
 ghost use Rattle.run.specs.Start.{mainTurn};
 use records::Answer;
 use records::layout;
@@ -34,7 +34,7 @@ pub extern "C" fn check(s: &[u8]) -> Answer
 // The number and the place are check's. A refused frame is left as it was, to the last byte; an accepted one is left as the rules say.
 #[no_mangle]
 pub extern "C" fn run(s: &mut [u8]) -> Answer
-    ensures { λ r. ⌜ (r ≡ checkOf (now (s .entry))) × (now (s .exit) ≡ leaves (now (s .entry))) ⌝ }
+    ensures { λ r. ⌜ (r ≡ answers (now (s .entry))) × (now (s .exit) ≡ leaves (now (s .entry))) ⌝ }
 {
     let a = frame::check(s);
     if a.number != 0 {

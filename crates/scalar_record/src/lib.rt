@@ -1,4 +1,5 @@
-// One scalar row's update, warm start and solve on the bytes of its record, in place: only what the Rust assigns is written.
+// One scalar row's update, warm start and solve on the bytes of its record, in place. Only fields that the Rust assigns are written. An update writes all of `pos`
+// and `grad`: a position that is not fetched, and a gradient that a distance row does not assign, as it was read.
 ghost use mathlib.Core.Bool.{cond};
 ghost use mathlib.Core.Path.{_≡_};
 ghost use Prim.Native.Nat.{ℕ, _+_, _≤_};

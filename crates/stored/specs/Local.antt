@@ -8,7 +8,8 @@ use mathlib.Core.List.{List, [], _∷_}
 use native.Mathlib.Omega.{arith}
 use lib.Ieee.{Float}
 use Rattle.relisting.specs.Access.{Access, Local}
-use Rattle.relisting.specs.Build.{then-local, choose-local, nothing, nothing-local}
+use Rattle.relisting.specs.Steps.{nothing}
+use Rattle.relisting.specs.Build.{then-local, choose-local, nothing-local}
 use Rattle.relisting.specs.Stored.{stored, storing-local}
 use Rattle.neo_hookean.specs.NeoHookean.{isFresh}
 use Rattle.scalar.specs.declared.Response.{Response}

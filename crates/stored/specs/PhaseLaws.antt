@@ -6,7 +6,7 @@ use mathlib.Core.List.{List}
 use lib.Dec.{eqb}
 use lib.Ieee.{Float}
 use Rattle.bytes.specs.Bytes.{le16}
-use Rattle.relisting.specs.Build.{fetch, alters}
+use Rattle.relisting.specs.Steps.{fetch, alters}
 use Rattle.places.specs.declared.Ids.{Ids}
 use Rattle.places.specs.declared.Holds.{Holds}
 use Rattle.rows.specs.Row.{keyOf, places, countedPlaces, holdsOf, lossesOf, four}

@@ -1,5 +1,5 @@
 -- A step leaves every record as long as it was, with the same length field and kind: what a run leaves is parted as the frame before it was. Assumes nothing.
-use Prim.Native.Nat.{ℕ, zero, suc, _+_, _*_, _<_}
+use Prim.Native.Nat.{ℕ, zero, suc, _<_}
 use mathlib.Core.Path.{_≡_, refl, sym, ap, _∙_}
 use mathlib.Core.Logic.{inl}
 use mathlib.Core.Bool.{Bool, true, false, cond}
@@ -8,17 +8,11 @@ use mathlib.Core.List.{List, [], _∷_}
 use native.Mathlib.Omega.{arith}
 use lib.Ieee.{Float}
 use lib.ListN.{length, getD, replicate}
-use Rattle.loops.specs.Loops.{upTo}
-use Rattle.real.specs.Float.{at}
 use Rattle.bytes.specs.Bytes.{le16, le32, f32Bytes, bytes2}
 use Rattle.bytes.proofs.Patch.{length-patch, sets-below}
-use Rattle.relisting.specs.Build.{fetch, alter, alters, _then_, pick, choose, nothing}
-use Rattle.relisting.specs.Sweep.{sweep, sweeps, run}
+use Rattle.relisting.specs.Steps.{fetch, alter, alters, _then_, pick, choose, nothing, sweep, sweeps, run}
 use Rattle.vector.specs.Vector.{sub}
 use Rattle.vector.specs.declared.Vec3.{Vec3}
-use Rattle.vector.specs.declared.Mat3.{Mat3}
-use Rattle.vector.specs.declared.Quat.{Quat}
-use Rattle.vector.specs.declared.Four.{Four}
 use Rattle.places.specs.declared.Holds.{Holds}
 use Rattle.neo_hookean.specs.NeoHookean.{isFresh}
 use Rattle.scalar.specs.declared.Response.{Response}
@@ -29,7 +23,8 @@ use Rattle.corotational.specs.declared.Volume.{Volume}
 use Rattle.neo_hookean.specs.declared.NeoHookeanRow.{NeoHookeanRow}
 use Rattle.records.specs.Layout as at
 use Rattle.rows.specs.Row.{Row, keyOf, Constraint, scalar, corotational, neoHookean}
-use Rattle.floats.specs.Fields.{floatsAt, putF32, putVec3, putFour, putMat3, putQuat, putFloats}
+use Rattle.floats.specs.Fields.{floatsAt, putF32, putVec3, putFour, putFloats}
+use Rattle.floats.proofs.Lengths.{length-putF32, length-putVec3, length-putFour, length-putMat3, length-putQuat, length-putFloats}
 use Rattle.rows.specs.Step as step
 use Rattle.rows.specs.Step.{updateOf, strainedOf}
 use Rattle.stored.specs.Read.{rowOf, constraintOf}
@@ -106,55 +101,24 @@ same-at (b ∷ bs) (c ∷ cs) x (suc n) = same-at bs cs (x .1) n
 flag-size : (b : List ℕ) (k : ℕ) (t : Bool) → length (putFlag b k t) ≡ length b
 flag-size b k t = length-patch b k (bytes2 (cond t 1 0))
 
-f32-size : (b : List ℕ) (k : ℕ) (x : Float) → length (putF32 b k x) ≡ length b
-f32-size b k x = length-patch b k (f32Bytes x)
-
-pub vec3-size : (b : List ℕ) (k : ℕ) (v : Vec3) → length (putVec3 b k v) ≡ length b
-unfolding putVec3
-vec3-size b k v =
-    f32-size (putF32 (putF32 b k (v .x)) (k + 4) (v .y)) (k + 8) (v .z)
-    ∙ f32-size (putF32 b k (v .x)) (k + 4) (v .y)
-    ∙ f32-size b k (v .x)
-
-four-size : (b : List ℕ) (k : ℕ) (v : Four) → length (putFour b k v) ≡ length b
-unfolding putFour
-four-size b k v = simp vec3-size
-
-mat3-size : (b : List ℕ) (k : ℕ) (m : Mat3) → length (putMat3 b k m) ≡ length b
-unfolding putMat3
-mat3-size b k m = simp vec3-size
-
-quat-size : (b : List ℕ) (k : ℕ) (q : Quat) → length (putQuat b k q) ≡ length b
-unfolding putQuat
-quat-size b k q =
-    f32-size (putF32 (putF32 (putF32 b k (q .x)) (k + 4) (q .y)) (k + 8) (q .z)) (k + 12) (q .w)
-    ∙ f32-size (putF32 (putF32 b k (q .x)) (k + 4) (q .y)) (k + 8) (q .z)
-    ∙ f32-size (putF32 b k (q .x)) (k + 4) (q .y)
-    ∙ f32-size b k (q .x)
-
-floats-size : (n : ℕ) (b : List ℕ) (k : ℕ) (l : List Float) → length (putFloats n b k l) ≡ length b
-unfolding putFloats
-floats-size zero b k l = refl
-floats-size (suc n) b k l = f32-size (upTo n (λ j s. putF32 s (k + 4 * j) (at l j)) b) (k + 4 * n) (at l n) ∙ floats-size n b k l
-
 response-size : (s : Response) (b : List ℕ) → length (putResponse s b) ≡ length b
 unfolding putResponse
 response-size s b =
     let b1 : List ℕ = putF32 b at.scalarInvLhs (s .«inv_lhs») in
     let b2 : List ℕ = putF32 b1 at.scalarCfmGain (s .«cfm_gain») in
     let b3 : List ℕ = putF32 b2 at.scalarRhs (s .rhs) in
-    f32-size b3 at.scalarPeakImpulse (s .«peak_impulse»)
-    ∙ f32-size b2 at.scalarRhs (s .rhs)
-    ∙ f32-size b1 at.scalarCfmGain (s .«cfm_gain»)
-    ∙ f32-size b at.scalarInvLhs (s .«inv_lhs»)
+    length-putF32 b3 at.scalarPeakImpulse (s .«peak_impulse»)
+    ∙ length-putF32 b2 at.scalarRhs (s .rhs)
+    ∙ length-putF32 b1 at.scalarCfmGain (s .«cfm_gain»)
+    ∙ length-putF32 b at.scalarInvLhs (s .«inv_lhs»)
 
 scalar-size : (r : SoftScalarConstraint) (b : List ℕ) → length (putScalar r b) ≡ length b
 unfolding putScalar
-scalar-size r b = simp (response-size, four-size)
+scalar-size r b = simp (response-size, length-putFour)
 
 pose-size : (p : Pose) (b : List ℕ) → length (putPose p b) ≡ length b
 unfolding putPose
-pose-size p b = simp (floats-size 6, mat3-size, quat-size, four-size) (flag-size b at.elasticInverted (p .inverted))
+pose-size p b = simp (length-putFloats 6, length-putMat3, length-putQuat, length-putFour) (flag-size b at.elasticInverted (p .inverted))
 
 volume-size : (v : Volume) (b : List ℕ) → length (putVolume v b) ≡ length b
 unfolding putVolume
@@ -164,16 +128,16 @@ volume-size v b =
     let b3 : List ℕ = putF32 b2 at.coroRhsVol (v .«rhs_vol») in
     let b4 : List ℕ = putFloats 6 b3 at.coroB (v .b) in
     let b5 : List ℕ = putFloats 6 b4 at.coroZ (v .z) in
-    f32-size b5 at.coroInvS (v .«inv_s»)
-    ∙ floats-size 6 b4 at.coroZ (v .z)
-    ∙ floats-size 6 b3 at.coroB (v .b)
-    ∙ f32-size b2 at.coroRhsVol (v .«rhs_vol»)
-    ∙ f32-size b1 at.coroCfmGainVol (v .«cfm_gain_vol»)
-    ∙ four-size b at.coroGradVol (v .«grad_vol»)
+    length-putF32 b5 at.coroInvS (v .«inv_s»)
+    ∙ length-putFloats 6 b4 at.coroZ (v .z)
+    ∙ length-putFloats 6 b3 at.coroB (v .b)
+    ∙ length-putF32 b2 at.coroRhsVol (v .«rhs_vol»)
+    ∙ length-putF32 b1 at.coroCfmGainVol (v .«cfm_gain_vol»)
+    ∙ length-putFour b at.coroGradVol (v .«grad_vol»)
 
 renewed-size : (r : NeoHookeanRow) (b : List ℕ) → length (putRenewed r b) ≡ length b
 unfolding putRenewed
-renewed-size r b = simp (floats-size 36, floats-size 6)
+renewed-size r b = simp (length-putFloats 36, length-putFloats 6)
 
 block-size : (r : NeoHookeanRow) (c : List ℕ) (t : Bool) → length (cond t c (putRenewed r c)) ≡ length c
 block-size r c true = refl
@@ -183,7 +147,7 @@ neo-size : (r : NeoHookeanRow) (b : List ℕ) → length (putNeoHookean r b) ≡
 unfolding putNeoHookean
 neo-size r b =
     let b1 : List ℕ = putPose (r .pose) b in
-    floats-size 6 (putBlock r b b1) at.neoDtGrad (r .stiffness .«dt_grad»)
+    length-putFloats 6 (putBlock r b b1) at.neoDtGrad (r .stiffness .«dt_grad»)
     ∙ block-size r b1 (isFresh (r .pose .strain) (floatsAt 6 b at.neoStiffnessStrain))
     ∙ pose-size (r .pose) b
 
@@ -196,19 +160,19 @@ constraint-size (neoHookean r) b = neo-size r b
 impulses-size : (l : Impulses) (b : List ℕ) → length (putImpulses l b) ≡ length b
 unfolding putImpulses
 impulses-size l b =
-    f32-size (putFloats 6 b at.elasticStrainImpulse (l .strain)) at.elasticVolImpulse (l .vol) ∙ floats-size 6 b at.elasticStrainImpulse (l .strain)
+    length-putF32 (putFloats 6 b at.elasticStrainImpulse (l .strain)) at.elasticVolImpulse (l .vol) ∙ length-putFloats 6 b at.elasticStrainImpulse (l .strain)
 
 warm-size : (c : Constraint) (b : List ℕ) → length (warmConstraint c b) ≡ length b
 unfolding warmConstraint
-warm-size (scalar c) b = f32-size b at.scalarImpulse (c .response .impulse)
+warm-size (scalar c) b = length-putF32 b at.scalarImpulse (c .response .impulse)
 warm-size (corotational c) b = impulses-size (c .impulses) b
 warm-size (neoHookean c) b = impulses-size (c .impulses) b
 
 solve-size : (c : Constraint) (b : List ℕ) → length (solveConstraint c b) ≡ length b
 unfolding solveConstraint
-solve-size (scalar c) b = f32-size b at.scalarImpulse (c .response .impulse)
+solve-size (scalar c) b = length-putF32 b at.scalarImpulse (c .response .impulse)
 solve-size (corotational c) b = impulses-size (c .impulses) b
-solve-size (neoHookean c) b = floats-size 6 b at.elasticStrainImpulse (c .impulses .strain)
+solve-size (neoHookean c) b = length-putFloats 6 b at.elasticStrainImpulse (c .impulses .strain)
 
 -- ---- a row's phases, and a point that loses
 
@@ -240,7 +204,7 @@ solve-row-alike vel b = solved-alike _ b
 
 pub lose-alike : (x : Vec3) (p : List ℕ) → Alike (lose x p) p
 unfolding lose putVec3
-lose-alike x p = record { size = vec3-size p at.pointVelocity v; start = λ k h. below k h }
+lose-alike x p = record { size = length-putVec3 p at.pointVelocity v; start = λ k h. below k h }
   where
     v : Vec3
     v = sub (velocity p) x

@@ -10,7 +10,7 @@ use native.Mathlib.Omega.{arith}
 use lib.ListN.{length}
 use Rattle.bytes.specs.Bytes.{le16, part}
 use Rattle.records.specs.Records.{recordAt, flatten}
-use Rattle.relisting.specs.Build.{fetch, alters, _then_, pick, choose, nothing}
+use Rattle.relisting.specs.Steps.{fetch, alters, _then_, pick, choose, nothing}
 use Rattle.vector.specs.declared.Vec3.{Vec3}
 use Rattle.vector.specs.declared.Four.{Four}
 use Rattle.places.specs.declared.Ids.{Ids}

@@ -7,7 +7,7 @@ use native.Mathlib.Omega.{arith}
 use lib.ListN.{length, length-append}
 use Rattle.bytes.specs.Bytes.{le32}
 use Rattle.records.specs.Records.{recordLength, flatten}
-use Rattle.relisting.specs.Sweep.{sweep}
+use Rattle.relisting.specs.Steps.{sweep}
 use Rattle.stored.specs.Points.{Points, mainStep, resweepStep}
 use Rattle.stored.specs.Run.{lay}
 use Rattle.stored.specs.Sizes.{Steady, main-steady, resweep-steady, sweep-rows, sweep-points, same-length}

@@ -6,7 +6,8 @@ use mathlib.Core.List.{List}
 use native.Mathlib.Omega.{arith}
 use native.Mathlib.Nat.{sub-zero}
 use lib.ListN.{length, replicate}
-use Rattle.relisting.specs.Sweep.{sweep, sweeps, run}
+use Rattle.records.proofs.Rest.{sub-turn}
+use Rattle.relisting.specs.Steps.{sweep, sweeps, run}
 use Rattle.stored.specs.Points.{Points, resweepStep, mainStep}
 use Rattle.stored.specs.Sizes.{Steady, resweep-steady}
 use Rattle.sweep.specs.Laid.{stepOf, Laid, Ready, Swept, Reswept, Ran}
@@ -28,9 +29,6 @@ pub record Resweeping (k n r : ℕ) (h : List ℕ) (x : List (List ℕ) × Point
 
 abbrev pub Again : ℕ → ℕ → ℕ → List ℕ → ℕ → List ℕ → Type 0
 Again k n r s₀ i s = (h : List ℕ) (x : List (List ℕ) × Points) → Laid s₀ h x → length (x .1) ≡ n → length (x .0) ≡ r → Resweeping k n r h x i s
-
-sub-turn : (n i : ℕ) → i < n → n - i ≡ suc (n - (i + 1))
-sub-turn n i h = omega arith
 
 module _ (k n r : ℕ) (s₀ : List ℕ) where
   pub again-begins : Again k n r s₀ 0 s₀

@@ -7,7 +7,7 @@ use lib.ListN.{length, replicate}
 use lib.Ieee.{Float}
 use Rattle.bytes.specs.Bytes.{le16}
 use Rattle.records.specs.Records.{recordLength, flatten}
-use Rattle.relisting.specs.Sweep.{sweep, sweeps, run}
+use Rattle.relisting.specs.Steps.{sweep, sweeps, run}
 use Rattle.stored.specs.Points.{Points, mainStep, resweepStep}
 use Rattle.stored.specs.Run.{lay}
 use Rattle.points.specs.InFrame.{Sized}

@@ -1,17 +1,18 @@
--- `replay_frames::replay` is safe and ends. Assumes nothing.
+-- `replay_frames::replay` meets its contract. One entry a turn. Assumes nothing.
 use Prim.Native.Nat.{_≤_, _-_}
 use borrow.Author.Needs.{needs}
+use Rattle.replay_frames.specs.Entries.{Counted, none, counts-right, counts-wrong}
 use Rattle.replay_frames.proofs.replay.Statement.{statement}
 use Rattle.replay_frames.proofs.replay.Tie as tie
 
 abbrev Inv-loop : tie.InvT-loop
-Inv-loop fd base tried₀ wrong₀ tried wrong = (tried ≤ 65536) × (wrong ≤ tried)
+Inv-loop fd base tried₀ wrong₀ tried wrong = Counted base tried wrong × (tried ≤ 65536) × (wrong ≤ tried)
 
 abbrev μ-loop : tie.MeasureT-loop
 μ-loop fd base tried₀ wrong₀ tried wrong = 65536 - tried
 
 loop-holds : tie.Need-loop-holds Inv-loop μ-loop
-loop-holds c = search needs
+loop-holds c = (none, search needs, search needs)
 
 one-requires : tie.Need-one-requires Inv-loop μ-loop
 one-requires c κs = search needs
@@ -26,19 +27,20 @@ loop-less : tie.Need-loop-less Inv-loop μ-loop
 loop-less c = search needs
 
 loop-again : tie.Need-loop-again Inv-loop μ-loop
-loop-again c = search needs
+loop-again c = (counts-wrong (c .before .before .before .before .loop .inv .0) _ (c .before .before .one .ensures) (c .if2 .taken), search needs, search needs)
 
 loop-less-2 : tie.Need-loop-less-2 Inv-loop μ-loop
 loop-less-2 c = search needs
 
 loop-again-2 : tie.Need-loop-again-2 Inv-loop μ-loop
-loop-again-2 c = search needs
-
-report-requires : tie.Need-report-requires Inv-loop μ-loop
-report-requires c κs = search needs
+loop-again-2 c =
+    (counts-right (c .before .before .before .before .loop .inv .0) _ (c .before .before .one .ensures) (c .before .if1 .left) (c .if2 .left), search needs, search needs)
 
 returns : tie.Need-returns Inv-loop μ-loop
-returns c = search needs
+returns c = c .before .loop .inv .0
+
+returns-2 : tie.Need-returns-2 Inv-loop μ-loop
+returns-2 c = c .before .before .before .loop .inv .0
 
 pub replay-spec : {M : Type 1} → statement M
 replay-spec =
@@ -54,5 +56,5 @@ replay-spec =
     loop-again
     loop-less-2
     loop-again-2
-    report-requires
-    returns)
+    returns
+    returns-2)

@@ -1,20 +1,22 @@
 -- `replay::file::record` meets its contract. One word a turn. Assumes nothing.
 use borrow.Author.Needs.{needs}
-use Prim.Native.Nat.{_-_, _≤_}
-use native.Mathlib.Omega.{arith}
-use Rattle.loops.specs.Fill.{filled-none, filled-more}
-use Rattle.replay.specs.Words.{RecordAt}
+use Prim.Native.Nat.{_+_, _-_, _*_, _≤_}
+use mathlib.Core.Path.{_≡_, refl}
+use lib.ListN.{length, set, replicate, length-set}
+use Rattle.bytes.specs.Bytes.{le32}
+use Rattle.loops.specs.Loops.{Ran, ran-none, ran-more, ran-all}
+use Rattle.replay.specs.Words.{wordsAt}
 use Rattle.replay.proofs.file.record.Statement.{statement}
 use Rattle.replay.proofs.file.record.Tie as tie
 
 abbrev Inv-loop : tie.InvT-loop
-Inv-loop s from size w₀ k₀ w k = RecordAt s from k w × (k ≤ size)
+Inv-loop s from size w₀ k₀ w k = Ran size (λ k w. set w k (le32 s (from + 4 * k))) (replicate 400 0) k w × (length w ≡ 400) × (k ≤ size)
 
 abbrev μ-loop : tie.MeasureT-loop
 μ-loop s from size w₀ k₀ w k = size - k
 
 loop-holds : tie.Need-loop-holds Inv-loop μ-loop
-loop-holds c = (filled-none (search needs), search needs)
+loop-holds c = (ran-none, search needs, search needs)
 
 mul-get-u32 : tie.Need-mul-get-u32 Inv-loop μ-loop
 mul-get-u32 c = search needs
@@ -38,10 +40,12 @@ loop-less : tie.Need-loop-less Inv-loop μ-loop
 loop-less c = search needs
 
 loop-again : tie.Need-loop-again Inv-loop μ-loop
-loop-again c = (filled-more (c .before .before .loop .inv .0) (search needs) (c .get-u32 .ensures), search needs)
+loop-again c =
+    (ran-more (c .before .before .loop .inv .0) (search needs) (rw (c .get-u32 .ensures) refl), simp length-set (c .before .before .loop .inv .1), search needs)
 
 returns : tie.Need-returns Inv-loop μ-loop
-returns c = record { long = c .before .loop .inv .0 .long; below = λ k b. c .before .loop .inv .0 .below k (omega arith) }
+unfolding wordsAt
+returns c = ran-all (c .before .loop .inv .0) (search needs)
 
 pub record-spec : {M : Type 1} → statement M
 record-spec =

@@ -1,0 +1,2 @@
+-- The entries of the file `frames`. Assumes nothing.
+pub mod Entries
