@@ -179,17 +179,23 @@ fn main() {
         fs::write(out.join(format!("mod_{}.rs", file.module)), declaration).unwrap();
     }
     fs::write(out.join("taken.txt"), taken).unwrap();
-    if env::var("CARGO_FEATURE_RATTLE").is_ok() {
-        link(&package);
+    let has = |feature: &str| env::var(format!("CARGO_FEATURE_{feature}")).is_ok();
+    let mut libraries = Vec::new();
+    if has("RATTLE") {
+        libraries.extend(["arith_ffi", "rows_ffi"]);
     }
+    if has("RATTLE") || has("RUN") {
+        libraries.push("run");
+    }
+    link(&package, &libraries);
 }
 
 /// The static libraries of the Rattle crates that are exported, from `RATTLE_LIB`.
-fn link(package: &Path) {
+fn link(package: &Path, names: &[&str]) {
     println!("cargo::rerun-if-env-changed=RATTLE_LIB");
     let place = package.join(env::var("RATTLE_LIB").unwrap_or("../target/staticlib".into()));
     println!("cargo::rustc-link-search=native={}", place.display());
-    for name in ["arith_ffi", "rows_ffi", "frame"] {
+    for name in names {
         let library = place.join(format!("lib{name}.a"));
         assert!(
             library.exists(),

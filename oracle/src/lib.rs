@@ -4,12 +4,14 @@
 //! machine do that, and neither is called here (build.rs refuses `mul_add` in the listed text). No flag such as
 //! `-C target-cpu` or a fast-math attribute is set, and on x86-64 each f32 operation is an SSE instruction with one rounding.
 //!
-//! Beside it, from document 01 alone, since the Rust has no frames: `layout`, `check` and `frames`.
+//! Beside it, from document 01 alone, since the Rust has no frames: `layout`, `check` and `frames`. `run` joins the two.
 
 pub mod answers;
 pub mod branches;
 pub mod check;
 pub mod direct;
+#[cfg(feature = "run")]
+pub mod exported;
 pub mod frames;
 pub mod inputs;
 pub mod layout;
@@ -18,6 +20,8 @@ pub mod random;
 #[cfg(feature = "rattle")]
 pub mod rattle;
 pub mod rows;
+pub mod run;
+pub mod samples;
 pub mod support;
 pub mod words;
 

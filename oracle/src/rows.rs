@@ -299,7 +299,9 @@ pub(crate) trait Row: Copy {
     type Listed: Copy;
 
     fn to_listed(self) -> Self::Listed;
-    /// The row with the fields of `listed`; colour and flag, which the listed Rust keeps elsewhere, as they are.
+    /// The row with the fields of `listed`, and with colour and flag, which the listed Rust keeps elsewhere.
+    fn of(colour: u32, strained: bool, listed: &Self::Listed) -> Self;
+    /// The row with the fields of `listed`; colour and flag as they are.
     fn with(self, listed: &Self::Listed) -> Self;
     fn strained_mut(&mut self) -> &mut bool;
 
@@ -345,10 +347,14 @@ impl Row for ScalarRow {
         }
     }
 
-    fn with(self, c: &SoftScalarConstraint) -> Self {
+    fn with(self, listed: &SoftScalarConstraint) -> Self {
+        Self::of(self.colour, self.strained, listed)
+    }
+
+    fn of(colour: u32, strained: bool, c: &SoftScalarConstraint) -> Self {
         Self {
-            colour: self.colour,
-            strained: self.strained,
+            colour,
+            strained,
             kind: c.kind as u32,
             count: u32::from(c.num_particles),
             ids: c.solver_ids,
@@ -431,11 +437,15 @@ impl<M: Model> Row for ElasticRow<M> {
         }
     }
 
-    fn with(self, c: &SoftElasticConstraint) -> Self {
+    fn with(self, listed: &SoftElasticConstraint) -> Self {
+        Self::of(self.colour, self.strained, listed)
+    }
+
+    fn of(colour: u32, strained: bool, c: &SoftElasticConstraint) -> Self {
         let (model, spare) = M::unwrap(&c.model);
         Self {
-            colour: self.colour,
-            strained: self.strained,
+            colour,
+            strained,
             inverted: c.inverted,
             spare,
             ids: c.solver_ids,

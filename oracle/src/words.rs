@@ -21,6 +21,19 @@ pub trait Words: Sized {
     fn read(words: &mut &[u32]) -> Self;
 
     fn write(&self, words: &mut Vec<u32>);
+
+    /// Takes so many values, one after another.
+    #[inline]
+    fn read_array<const N: usize>(words: &mut &[u32]) -> [Self; N] {
+        from_fn(|_| Self::read(words))
+    }
+
+    #[inline]
+    fn write_array(values: &[Self], words: &mut Vec<u32>) {
+        for value in values {
+            value.write(words);
+        }
+    }
 }
 
 impl Words for u32 {
@@ -59,19 +72,32 @@ impl Words for Real {
     fn write(&self, words: &mut Vec<u32>) {
         words.push(bits(*self));
     }
+
+    // At once, since whole frames are read and written by this.
+    #[inline]
+    fn read_array<const N: usize>(words: &mut &[u32]) -> [Self; N] {
+        let (first, rest) = words.split_first_chunk().expect("too few words");
+        *words = rest;
+        first.map(Self::from_bits)
+    }
+
+    #[inline]
+    fn write_array(values: &[Self], words: &mut Vec<u32>) {
+        words.extend(values.iter().map(|&value| bits(value)));
+    }
 }
 
 impl<T: Words, const N: usize> Words for [T; N] {
     const COUNT: usize = N * T::COUNT;
 
+    #[inline]
     fn read(words: &mut &[u32]) -> Self {
-        from_fn(|_| T::read(words))
+        T::read_array(words)
     }
 
+    #[inline]
     fn write(&self, words: &mut Vec<u32>) {
-        for value in self {
-            value.write(words);
-        }
+        T::write_array(self, words);
     }
 }
 
@@ -109,10 +135,12 @@ macro_rules! words_of {
         impl $crate::words::Words for $type {
             const COUNT: usize = 0 $(+ <$part as $crate::words::Words>::COUNT)*;
 
+            #[inline]
             fn read(words: &mut &[u32]) -> Self {
                 Self { $($field: <$part as $crate::words::Words>::read(words)),* }
             }
 
+            #[inline]
             fn write(&self, words: &mut Vec<u32>) {
                 $(self.$field.write(words);)*
             }
@@ -120,11 +148,21 @@ macro_rules! words_of {
     };
 }
 
-words_of!(Vector {
-    x: Real,
-    y: Real,
-    z: Real
-});
+impl Words for Vector {
+    const COUNT: usize = 3;
+
+    #[inline]
+    fn read(words: &mut &[u32]) -> Self {
+        let [x, y, z] = Words::read(words);
+        Self { x, y, z }
+    }
+
+    #[inline]
+    fn write(&self, words: &mut Vec<u32>) {
+        [self.x, self.y, self.z].write(words);
+    }
+}
+
 words_of!(Matrix {
     x_axis: Vector,
     y_axis: Vector,

@@ -1,7 +1,7 @@
 //! The worked examples of document 01 that concern frames, of the independent check.
 
 use oracle::check::check;
-use oracle::frames::{ACCEPTED, Frame, some};
+use oracle::frames::{ACCEPTED, Frame, Sizes, relisting, runs, some};
 use oracle::layout::{OVERFLOW, SCALAR};
 use oracle::random::Random;
 use std::collections::BTreeSet;
@@ -62,4 +62,22 @@ fn frames_by_chance() {
         });
     }
     assert!(numbers.into_iter().eq(0..=9));
+}
+
+/// What is made to be run is accepted, and so is every relisting of it.
+#[test]
+fn frames_for_runs() {
+    for (count, large) in [(4000, usize::MAX), (100, 12)] {
+        let sizes = Sizes {
+            large,
+            resweeps: 64,
+        };
+        let random = &mut Random::new(large as u64, "frames for runs");
+        for _ in 0..count {
+            let (_, frame) = runs(random, sizes);
+            assert_eq!(check(&frame.bytes), (0, 0));
+            let (other, _) = relisting(random, &frame);
+            assert_eq!(check(&other.bytes), (0, 0));
+        }
+    }
 }

@@ -2,9 +2,7 @@
 pub mod Parsing
 pub mod Wholes
 pub mod Pairs
-pub mod Relistings
 pub mod Numbers
 pub mod Reaching
 pub mod Meets
 pub mod Givens
-pub mod Examples

@@ -14,8 +14,7 @@ use Rattle.bytes.specs.Bytes.{le16}
 use Rattle.records.specs.declared.Due.the-variants.{Row}
 use Rattle.records.proofs.Values.{row-last}
 use Rattle.clash.specs.Clash.{Key, keyOf, anyOf, namedBy, clashes}
-use Rattle.acceptance.specs.Whole.{Good, Chain, Free}
-use Rattle.acceptance.specs.Relisted.{row, colourOf}
+use Rattle.acceptance.specs.Whole.{row, colourOf, Good, Chain, Free}
 use Rattle.acceptance.proofs.Parsing.{good-kind}
 
 -- ---- clashes

@@ -1,4 +1,4 @@
--- Records that pass their tests are good records, one after another; and such records pass. One induction each way serves points and rows.
+-- Records that pass their tests are good records, one after another; and such records pass. One induction each way serves points and rows. Records that are as long as they say are found again where they are laid one after another.
 -- Assumes nothing.
 use Prim.Native.Nat.{ℕ, zero, suc, _+_, _≤_}
 use mathlib.Core.Path.{_≡_, refl, sym, ap, _∙_, subst}
@@ -43,19 +43,53 @@ module _ (w : Due) (s : List ℕ) (off c : ℕ) (p : Passed (recordTests w s off
   pub record-colour : le16 (recordAt s off) 6 ≡ le16 s (off + 6)
   record-colour = le16-part s off (recordLength s off) 6 (omega (arith, longer (kind-of shape)))
 
+-- ---- records that are as long as they say, whatever else they hold
+
+abbrev pub Fits : List ℕ → Type 0
+Fits b = length b ≡ recordLength b 0
+
+unfoldable pub AllFit : List (List ℕ) → Type 0
+AllFit [] = Unit
+AllFit (b ∷ bs) = Fits b × AllFit bs
+
 -- in the middle of a frame
+module _ (A b C : List ℕ) (off : ℕ) (e : length A ≡ off) (fits : Fits b) where
+  pub length-in : recordLength (A ++ (b ++ C)) off ≡ length b
+  length-in = ap (4 +_) (ap (le32 (A ++ (b ++ C))) (sym (add-zero off)) ∙ le32-middle A b C off e 0 (omega (arith, fits))) ∙ sym fits
+
+  pub record-in : recordAt (A ++ (b ++ C)) off ≡ b
+  record-in = ap (λ (n : ℕ). part off n (A ++ (b ++ C))) length-in ∙ part-middle A b C off e
+
+-- laid one after another they are found again
+pub record Parted (bs : List (List ℕ)) (s : List ℕ) (off : ℕ) : Type 0 where
+  pub same : records (length bs) s off ≡ bs
+  pub end : endOf (length bs) s off ≡ off + length (flatten bs)
+
+pub parted : (bs : List (List ℕ)) (A C s : List ℕ) (off : ℕ) → s ≡ A ++ (flatten bs ++ C) → length A ≡ off → AllFit bs → Parted bs s off
+unfolding records endOf flatten AllFit
+parted [] A C s off e l g = record { same = refl; end = sym (add-zero off) }
+parted (b ∷ bs) A C s off e l g =
+    let e′ : s ≡ A ++ (b ++ (flatten bs ++ C)) = e ∙ ap (A ++_) (append-assoc b (flatten bs) C) in
+    let n : recordLength s off ≡ length b = ap (λ (x : List ℕ). recordLength x off) e′ ∙ length-in A b (flatten bs ++ C) off l (g .0) in
+    let ih = parted bs (A ++ b) C s (off + recordLength s off) (e′ ∙ sym (append-assoc A b (flatten bs ++ C))) (length-append A b ∙ omega arith) (g .1) in
+    record {
+      same = λ i. (ap (λ (x : List ℕ). recordAt x off) e′ ∙ record-in A b (flatten bs ++ C) off l (g .0)) i ∷ ih .same i;
+      end = ih .end ∙ omega (arith, length-append b (flatten bs));
+    }
+
+pub chain-fits : (w : Due) (c : ℕ) (bs : List (List ℕ)) → Chain w c bs → AllFit bs
+unfolding Chain AllFit
+chain-fits w c [] g = tt
+chain-fits w c (b ∷ bs) g = (g .0 .size, chain-fits w (le16 b 6) bs (g .1))
+
+-- ---- good records in the middle of a frame
+
 module _ (w : Due) (c : ℕ) (A b C : List ℕ) (off : ℕ) (e : length A ≡ off) (g : Good w c b) where
   long : 26 ≤ length b
   long = omega (arith, g .size, longer (good-kind w c b g))
 
   size : length (A ++ (b ++ C)) ≡ off + (length b + length C)
   size = length-append A (b ++ C) ∙ omega (arith, length-append b C)
-
-  pub length-in : recordLength (A ++ (b ++ C)) off ≡ length b
-  length-in = ap (4 +_) (ap (le32 (A ++ (b ++ C))) (sym (add-zero off)) ∙ le32-middle A b C off e 0 (omega (arith, long))) ∙ sym (g .size)
-
-  pub record-in : recordAt (A ++ (b ++ C)) off ≡ b
-  record-in = ap (λ (n : ℕ). part off n (A ++ (b ++ C))) length-in ∙ part-middle A b C off e
 
   pub colour-in : le16 (A ++ (b ++ C)) (off + 6) ≡ le16 b 6
   colour-in = le16-middle A b C off e 6 (omega (arith, long))
@@ -64,14 +98,14 @@ module _ (w : Due) (c : ℕ) (A b C : List ℕ) (off : ℕ) (e : length A ≡ of
   shape-in = record {
     six = omega (arith, size, long);
     due = (λ i. isDue w (le16-middle A b C off e 4 (omega (arith, long)) i) (len-in i)) ∙ g .due;
-    whole = omega (arith, size, length-in);
+    whole = omega (arith, size, length-in A b C off e (g .size));
   }
     where
       len-in : le32 (A ++ (b ++ C)) off ≡ le32 b 0
-      len-in = omega (arith, length-in, g .size)
+      len-in = omega (arith, length-in A b C off e (g .size), g .size)
 
   pub passes-in : Passed (recordTests w (A ++ (b ++ C)) off c)
-  passes-in = record-passes w (A ++ (b ++ C)) off c shape-in (subst (λ (l : List ℕ). Passed (fields l c)) (sym record-in) (g .passed))
+  passes-in = record-passes w (A ++ (b ++ C)) off c shape-in (subst (λ (l : List ℕ). Passed (fields l c)) (sym (record-in A b C off e (g .size))) (g .passed))
 
 -- ---- records one after another
 
@@ -95,25 +129,27 @@ parse w (suc k) s off c h p =
           ∙ take-append-drop (recordLength s off) (drop off s);
     }
 
+-- and so do good records, laid one after another
+pub built : (w : Due) (bs : List (List ℕ)) (A C s : List ℕ) (off c : ℕ) → s ≡ A ++ (flatten bs ++ C) → length A ≡ off → Chain w c bs → Passed (recordsTests w (length bs) s off c)
+unfolding recordsTests flatten Chain Passed
+built w [] A C s off c e l g = tt
+built w (b ∷ bs) A C s off c e l g =
+    let e′ : s ≡ A ++ (b ++ (flatten bs ++ C)) = e ∙ ap (A ++_) (append-assoc b (flatten bs) C) in
+    let n : recordLength s off ≡ length b = ap (λ (x : List ℕ). recordLength x off) e′ ∙ length-in A b (flatten bs ++ C) off l (g .0 .size) in
+    let hue : le16 s (off + 6) ≡ le16 b 6 = ap (λ (x : List ℕ). le16 x (off + 6)) e′ ∙ colour-in w c A b (flatten bs ++ C) off l (g .0) in
+    passed-join (recordTests w s off c) _ (subst (λ (x : List ℕ). Passed (recordTests w x off c)) (sym e′) (passes-in w c A b (flatten bs ++ C) off l (g .0)))
+    (built w bs (A ++ b) C s (off + recordLength s off) (le16 s (off + 6)) (e′ ∙ sym (append-assoc A b (flatten bs ++ C)))
+    (length-append A b ∙ omega arith) (subst (λ (x : ℕ). Chain w x bs) (sym hue) (g .1)))
+
 pub record Built (w : Due) (bs : List (List ℕ)) (s : List ℕ) (off c : ℕ) : Type 0 where
   pub passed : Passed (recordsTests w (length bs) s off c)
   pub same : records (length bs) s off ≡ bs
   pub end : endOf (length bs) s off ≡ off + length (flatten bs)
 
 pub build : (w : Due) (bs : List (List ℕ)) (A C s : List ℕ) (off c : ℕ) → s ≡ A ++ (flatten bs ++ C) → length A ≡ off → Chain w c bs → Built w bs s off c
-unfolding recordsTests records endOf flatten Chain Passed
-build w [] A C s off c e l g = record { passed = tt; same = refl; end = sym (add-zero off) }
-build w (b ∷ bs) A C s off c e l g =
-    let e′ : s ≡ A ++ (b ++ (flatten bs ++ C)) = e ∙ ap (A ++_) (append-assoc b (flatten bs) C) in
-    let n : recordLength s off ≡ length b = ap (λ (x : List ℕ). recordLength x off) e′ ∙ length-in w c A b (flatten bs ++ C) off l (g .0) in
-    let hue : le16 s (off + 6) ≡ le16 b 6 = ap (λ (x : List ℕ). le16 x (off + 6)) e′ ∙ colour-in w c A b (flatten bs ++ C) off l (g .0) in
-    let ih = build w bs (A ++ b) C s (off + recordLength s off) (le16 s (off + 6)) (e′ ∙ sym (append-assoc A b (flatten bs ++ C)))
-    (length-append A b ∙ omega arith) (subst (λ (x : ℕ). Chain w x bs) (sym hue) (g .1)) in
-    record {
-      passed = passed-join (recordTests w s off c) _ (subst (λ (x : List ℕ). Passed (recordTests w x off c)) (sym e′) (passes-in w c A b (flatten bs ++ C) off l (g .0))) (ih .passed);
-      same = λ i. (ap (λ (x : List ℕ). recordAt x off) e′ ∙ record-in w c A b (flatten bs ++ C) off l (g .0)) i ∷ ih .same i;
-      end = ih .end ∙ omega (arith, length-append b (flatten bs));
-    }
+build w bs A C s off c e l g =
+    let p = parted bs A C s off e l (chain-fits w c bs g) in
+    record { passed = built w bs A C s off c e l g; same = p .same; end = p .end }
 
 pub as-many : (k : ℕ) (s : List ℕ) (off : ℕ) → length (records k s off) ≡ k
 unfolding records

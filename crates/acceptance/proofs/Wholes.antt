@@ -125,7 +125,7 @@ whole-accepted s w = passed-first (frameTests s) (whole-passes s w)
 
 -- ---- the numbers of a whole frame
 
-point-length : (c : ℕ) (b : List ℕ) → Good Point c b → length b ≡ 30
+pub point-length : (c : ℕ) (b : List ℕ) → Good Point c b → length b ≡ 30
 point-length c b g = go (good-kind Point c b g)
   where
     go : Kind Point (le16 b 4) (le32 b 0) → length b ≡ 30

@@ -1,5 +1,3 @@
 -- What check's answers say of a frame. Assumes nothing.
 pub mod Whole
-pub mod Relisted
 pub mod Given
-pub mod Worked

@@ -3,7 +3,7 @@ use Prim.Native.Nat.{ℕ, _+_, _*_, _≤_, _<_}
 use mathlib.Core.Path.{_≡_}
 use mathlib.Core.Bool.{true, false}
 use mathlib.Core.List.{List, [], _∷_, _++_}
-use lib.ListN.{length}
+use lib.ListN.{length, getD}
 use Rattle.bytes.specs.Bytes.{le16, le32}
 use Rattle.records.specs.declared.Due.{Due}
 use Rattle.records.specs.declared.Due.the-variants.{Head, Point, Row}
@@ -13,6 +13,13 @@ use Rattle.records.specs.Fields.{fields}
 use Rattle.records.specs.Records.{isDue, recordLength, flatten}
 use Rattle.clash.specs.Clash.{Key, keyOf, clashes}
 use Rattle.frame.specs.Frames.{countN, countR, modeOf, resweepsOf, rowsAt, rowsEnd, head, points, rows}
+
+-- row n of a listing, numbered from 0, and its colour
+abbrev pub row : List (List ℕ) → ℕ → List ℕ
+row bs n = getD bs n []
+
+abbrev pub colourOf : List (List ℕ) → ℕ → ℕ
+colourOf bs n = le16 (row bs n) rowColour
 
 -- a record's bytes: as long as they say, of a kind and length that are due, with fields that pass every test after a row of colour c
 -- (the tests of a head or a point do not look at c)

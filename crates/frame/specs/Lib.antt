@@ -1,4 +1,4 @@
--- Whole frames: their parts, what check answers, and what a relisting is. Assumes nothing.
+-- Whole frames: their parts, and what check answers. Assumes nothing.
 pub mod Frames
 pub mod Check
 pub mod Scanned

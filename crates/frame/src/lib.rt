@@ -41,8 +41,7 @@ fn records_test(due: Due, k: usize, s: &[u8], at: usize) -> Scan
 }
 
 // Document 01's number and place: 0 at 0 for a frame that is accepted, else the first refusal.
-#[no_mangle]
-pub extern "C" fn check(frame: &[u8]) -> Answer
+pub fn check(frame: &[u8]) -> Answer
     ensures { λ r. ⌜ r ≡ checkOf (now (frame .entry)) ⌝ }
 {
     let h = records::record_test(Due::Head, frame, 0, 0);

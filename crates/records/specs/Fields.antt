@@ -59,6 +59,7 @@ pointFields b = run (finite b) pointPosition 6
 unfoldable pub scalarCodes : List ℕ → List Test
 scalarCodes b = limit16 b scalarCount 4 then code b rowStrained 1 then code b scalarType 2
 
+-- 36 floats from `pos` up to the bounds: (174 − 30) / 4
 unfoldable pub scalarFloats : List ℕ → List Test
 scalarFloats b = run (finite b) rowPos 36 then bound b scalarLower then bound b scalarUpper
 
@@ -69,6 +70,7 @@ scalarFields b c = scalarCodes b then scalarFloats b then ordered b scalarLower 
 unfoldable pub elasticCodes : List ℕ → ℕ → List Test
 elasticCodes b last = code b rowStrained 1 then code b elasticInverted 1 then code b elasticFourth last
 
+-- 147 floats from `pos` to the record's end: (618 − 30) / 4
 unfoldable pub corotationalFields : List ℕ → ℕ → List Test
 corotationalFields b c =
     elasticCodes b 1
@@ -76,6 +78,7 @@ corotationalFields b c =
     then (run (cap b) elasticStrainCap 6 then cap b coroVolCap)
     then colourFrom b c
 
+-- 162 floats from `pos` to the record's end: (678 − 30) / 4
 unfoldable pub neoHookeanFields : List ℕ → ℕ → List Test
 neoHookeanFields b c =
     elasticCodes b 0

@@ -8,24 +8,10 @@ use mathlib.Core.Logic.{_≢_, _⊎_, inl, inr}
 use Prim.Native.Nat.{ℕ, zero, suc}
 use native.Mathlib.Decide.{ℕ-discrete}
 use native.Mathlib.Omega.{arith}
-use mathlib.Core.List.{List, [], _∷_, map, List·Memᴰ, List·Memᴰ·head, List·Memᴰ·tail, List·Memᴰ·not-nil, List·Memᴰ·cases-cons}
+use mathlib.Core.List.{List, [], _∷_, List·Memᴰ, List·Memᴰ·head, List·Memᴰ·tail, List·Memᴰ·not-nil, List·Memᴰ·cases-cons}
 use lib.ListN.{getElem?}
 use Rattle.relisting.specs.Access.{Access, Agree, Local}
-
-infixl 20 _then_
-abbrev pub nothing : {R S : Type 0} → R → S → R × S
-nothing r s = (r, s)
-
-abbrev pub _then_ : {R S : Type 0} → (R → S → R × S) → (R → S → R × S) → R → S → R × S
-_then_ f g r s = let x = f r s in g (x .0) (x .1)
-
--- c is asked of the row as it comes
-abbrev pub pick : {R S : Type 0} → Bool → (R → S → R × S) → (R → S → R × S) → R → S → R × S
-pick true f g = f
-pick false f g = g
-
-abbrev pub choose : {R S : Type 0} → (R → Bool) → (R → S → R × S) → (R → S → R × S) → R → S → R × S
-choose c f g r s = pick (c r) f g r s
+use Rattle.relisting.specs.Steps.{_then_, pick, choose, nothing, fetch, alter, alters}
 
 module _ {R S P K : Type 0} (F : Access R S P K) where
   pub nothing-local : Local F nothing
@@ -68,21 +54,6 @@ module _ {R S P K : Type 0} (F : Access R S P K) where
       one false = M
 
 -- ---- points as a list: fetch, compute, alter
-
--- what the points of a list of ids hold; an id that is out of range holds nothing
-abbrev pub fetch : {Pt : Type 0} → List ℕ → List Pt → List (Option Pt)
-fetch ids s = map (getElem? s) ids
-
--- point i by h, where there is one
-abbrev pub alter : {Pt : Type 0} → List Pt → ℕ → (Pt → Pt) → List Pt
-alter [] i h = []
-alter (x ∷ s) zero h = h x ∷ s
-alter (x ∷ s) (suc i) h = x ∷ alter s i h
-
--- one after another, so that a point listed twice is altered twice; `act` says what a change does to a point
-abbrev pub alters : {Pt Δ : Type 0} → (Δ → Pt → Pt) → List (ℕ × Δ) → List Pt → List Pt
-alters act [] s = s
-alters act (c ∷ cs) s = alters act cs (alter s (c .0) (act (c .1)))
 
 alter-other : {Pt : Type 0} (s : List Pt) (i p : ℕ) (h : Pt → Pt) → p ≢ i → getElem? (alter s i h) p ≡ getElem? s p
 alter-other [] i p h n = refl

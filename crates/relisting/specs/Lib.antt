@@ -1,4 +1,5 @@
--- Demand 3, over any steps that go by their row and the points that it names. Assumes nothing.
+-- The sweeps of a run (Steps), and demand 3 over any steps that go by their row and the points that it names. Assumes nothing.
+pub mod Steps
 pub mod Access
 pub mod Sweep
 pub mod Relist

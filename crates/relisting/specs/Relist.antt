@@ -11,7 +11,8 @@ use native.Mathlib.Decide.{decLt, ℕ-discrete}
 use mathlib.Core.List.{List, [], _∷_, map}
 use lib.ListN.{length, getD, replicate, length-map, List·getD-map}
 use Rattle.relisting.specs.Access.{Access, Local}
-use Rattle.relisting.specs.Sweep.{sweeps, Match, Alike, All-local, sweeps-alike, run, run-local}
+use Rattle.relisting.specs.Steps.{sweeps, run}
+use Rattle.relisting.specs.Sweep.{Match, Alike, All-local, sweeps-alike, run-local}
 
 -- two rows clash where one writes a point that the other reads (or writes: what is written counts as read)
 abbrev pub Clash : {R S P K : Type 0} → Access R S P K → K → K → Type 0

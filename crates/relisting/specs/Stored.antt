@@ -2,10 +2,7 @@
 use mathlib.Core.Path.{_≡_, ap, _∙_}
 use Prim.Native.Nat.{ℕ}
 use Rattle.relisting.specs.Access.{Access, Agree, Local}
-
--- read, step, put back
-abbrev pub storing : {R S X : Type 0} → (X → R) → (R → X → X) → (R → S → R × S) → X → S → X × S
-storing read put f x s = let y = f (read x) s in (put (y .0) x, y .1)
+use Rattle.relisting.specs.Steps.{storing}
 
 module _ {R S P K X : Type 0} (F : Access R S P K) (read : X → R) where
   abbrev pub stored : Access X S P K

@@ -10,16 +10,9 @@ use native.Mathlib.Decide.{decLt}
 use mathlib.Core.List.{List, [], _∷_}
 use lib.ListN.{length, getD, replicate}
 use Rattle.relisting.specs.Access.{Access, Agree, Local}
+use Rattle.relisting.specs.Steps.{sweep, sweeps}
 
 module _ {R S : Type 0} (f : R → S → R × S) where
-  -- one sweep: the rows in listed order, each with the state that those before it left
-  abbrev pub sweep : List R → S → List R × S
-  sweep [] s = ([], s)
-  sweep (r ∷ rs) s =
-      let h : R × S = f r s in
-      let t : List R × S = sweep rs (h .1) in
-      (h .0 ∷ t .0, t .1)
-
   -- the state that row n meets
   abbrev pub before : (ℕ → R) → S → ℕ → S
   before row s zero = s
@@ -172,11 +165,6 @@ module _ {R S P K : Type 0} (F : Access R S P K) (d : R) (M : ℕ → ℕ → Ty
         ∙ ap (λ (x : S). F .get x p) (sym (sweep-state f d B t));
   }
 
--- sweeps one after another, each with its own step
-abbrev pub sweeps : {R S : Type 0} → List (R → S → R × S) → List R × S → List R × S
-sweeps [] x = x
-sweeps (f ∷ fs) x = sweeps fs (sweep f (x .0) (x .1))
-
 pub data All-local {R S P K : Type 0} (F : Access R S P K) : List (R → S → R × S) → Type 0 where
   done : All-local F []
   also : {f : R → S → R × S} {fs : List (R → S → R × S)} → Local F f → All-local F fs → All-local F (f ∷ fs)
@@ -186,10 +174,6 @@ pub sweeps-alike : {R S P K : Type 0} (F : Access R S P K) (d : R) (M : ℕ → 
 sweeps-alike F d M Q done x y h = h
 sweeps-alike F d M Q (also {f = f} {fs = fs} L Ls) x y h =
     sweeps-alike F d M Q Ls (sweep f (x .0) (x .1)) (sweep f (y .0) (y .1)) (sweep-alike F d M Q f L (x .0) (y .0) (x .1) (y .1) h)
-
--- the main sweep and k resweeps
-abbrev pub run : {R S : Type 0} → (R → S → R × S) → (R → S → R × S) → ℕ → List R → S → List R × S
-run f g k rows s = sweeps (f ∷ replicate k g) (rows, s)
 
 pub run-local : {R S P K : Type 0} (F : Access R S P K) (f g : R → S → R × S) → Local F f → Local F g → (k : ℕ) → All-local F (f ∷ replicate k g)
 run-local F f g L M k = also L (go k)

@@ -1,4 +1,4 @@
--- The steps are local: a step goes by its row and the points that the row names, alters only named points in range, and keeps colour, names and masses. Assumes nothing.
+-- A row's update, warm start and solve are local: each goes by its row and the points that the row names, alters only named points in range, and keeps colour, names and masses. Assumes nothing.
 use Prim.Native.Nat.{ℕ}
 use mathlib.Core.Path.{_≡_, refl, ap}
 use mathlib.Core.Bool.{Bool, true, false}
@@ -8,14 +8,14 @@ use mathlib.Core.List.{List, [], _∷_, List·Memᴰ, List·Memᴰ·head, List·
 use lib.Dec.{ltb}
 use lib.Ieee.{Float}
 use Rattle.relisting.specs.Access.{Access, Local}
-use Rattle.relisting.specs.Build.{listed, work-local, then-local, choose-local, nothing, nothing-local}
+use Rattle.relisting.specs.Build.{listed, work-local}
 use Rattle.vector.specs.declared.Vec3.{Vec3}
 use Rattle.places.specs.declared.Holds.{Holds}
 use Rattle.scalar.specs.Row as s
 use Rattle.corotational.specs.Row as co
 use Rattle.neo_hookean.specs.Row as nh
 use Rattle.rows.specs.Row.{Row, Constraint, scalar, corotational, neoHookean, Key, keyOf, namesOf, massesOf, holdsOf, keepIf, inRange, lossesOf, four}
-use Rattle.rows.specs.Step.{updateOf, warmstartOf, solveOf, withConstraint, update, warm, solve, by, only, mainStep, resweepStep}
+use Rattle.rows.specs.Step.{updateOf, warmstartOf, solveOf, withConstraint, update, warm, solve, by}
 
 -- ---- the points that a row writes: those that it names and that are in range
 
@@ -99,16 +99,3 @@ module _ {Pt : Type 0} (position velocity : Pt → Vec3) (lose : Vec3 → Pt →
   solve-local = work-local Pt keyOf (read N) (written N) (among N) lose (solve position velocity lose N)
       (λ r vs. key-kept r _ _ (solve-keeps (r .constraint) (holdsOf velocity (keyOf r .names) vs)))
       (λ r vs c m. losses-at N (keyOf r .names) _ c m)
-
-  only-local : (b : Bool) (f : Row → List Pt → Row × List Pt) → Local Sheet f → Local Sheet (only position velocity lose N b f)
-  only-local true f L = L
-  only-local false f L = nothing-local Sheet
-
-  pub main-local : (u w : Bool) (coeff least : Float) → Local Sheet (mainStep position velocity lose N u w coeff least)
-  main-local u w coeff least =
-      then-local Sheet _ _
-      (then-local Sheet _ _ (only-local u _ (update-local least)) (only-local w _ (warm-local coeff)))
-      solve-local
-
-  pub resweep-local : Local Sheet (resweepStep position velocity lose N)
-  resweep-local = choose-local Sheet (λ r. r .strained) _ nothing solve-local (nothing-local Sheet)

@@ -1,10 +1,10 @@
--- What a sweep does with one row: `solve_color_constraint` of the main sweep, and a resweep. A step fetches what the row's places hold, computes from the row and that alone, and alters the points that the row names and that are in range. Definitions only. Assumes nothing.
+-- One row's update, warm start and solve, over any kind of point: each fetches what the row's places hold, computes from the row and that alone, and alters the points that the row names and that are in range. The steps of the two sweeps are made of them in stored/specs/Points.antt. Definitions only. Assumes nothing.
 use Prim.Native.Nat.{ℕ}
-use mathlib.Core.Bool.{Bool, true, false}
+use mathlib.Core.Bool.{Bool}
 use mathlib.Core.Option.{Option}
 use mathlib.Core.List.{List, [], _∷_}
 use lib.Ieee.{Float}
-use Rattle.relisting.specs.Build.{fetch, alters, _then_, choose, nothing}
+use Rattle.relisting.specs.Steps.{fetch, alters}
 use Rattle.vector.specs.declared.Vec3.{Vec3}
 use Rattle.vector.specs.declared.Four.{Four}
 use Rattle.places.specs.declared.Holds.{Holds}
@@ -71,15 +71,3 @@ module _ {Pt : Type 0} (position velocity : Pt → Vec3) (lose : Vec3 → Pt →
 
   unfoldable pub solve : Row → List (Option Pt) → Row × List (ℕ × Vec3)
   solve r vs = let x = solveOf (r .constraint) (holdsOf velocity (names r) vs) in (withConstraint r (x .constraint), lost r (x .loss))
-
-  abbrev pub only : Bool → (Row → List Pt → Row × List Pt) → Row → List Pt → Row × List Pt
-  only true f = f
-  only false f = nothing
-
-  -- the main sweep's step: an update where mode bit 0 is set, a warm start where bit 1 is, and the solve
-  abbrev pub mainStep : Bool → Bool → Float → Float → Row → List Pt → Row × List Pt
-  mainStep u w coeff least = only u (by (update least)) then only w (by (warm coeff)) then by solve
-
-  -- a resweep's: the solve, where the row is strained
-  abbrev pub resweepStep : Row → List Pt → Row × List Pt
-  resweepStep = choose (λ r. r .strained) (by solve) nothing

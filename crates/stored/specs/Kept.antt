@@ -108,7 +108,7 @@ module _ (b : List ℕ) where
   abbrev byKind : Bool → Bool → Constraint
   byKind t u = cond t (scalar (scalarOf b)) (cond u (corotational (corotationalOf b)) (neoHookean (neoHookeanOf b)))
 
-  names-by : (t u : Bool) → namesOf (byKind t u) (idsAt b 14) ≡ cond t (countedPlaces (le16 b 12) (idsAt b 14)) (places (idsAt b 14))
+  pub names-by : (t u : Bool) → namesOf (byKind t u) (idsAt b 14) ≡ cond t (countedPlaces (le16 b 12) (idsAt b 14)) (places (idsAt b 14))
   unfolding namesOf scalarOf
   names-by true u = refl
   names-by false true = refl
@@ -143,8 +143,17 @@ module _ (b c : List ℕ) (h : Kept b c) where
   unfolding idsAt massesAt
   key-kept =
       key-from b
-      ∙ rw (le16-kept 6 (inl (omega arith)) (inl (omega arith)), le16-kept 4 (inl (omega arith)) (inl (omega arith)),
-          le16-kept 12 (inr (inl (omega arith, omega arith))) (inr (inl (omega arith, omega arith))),
-          id-kept 14 (omega arith) (omega arith), id-kept 18 (omega arith) (omega arith), id-kept 22 (omega arith) (omega arith), id-kept 26 (omega arith) (omega arith),
-          mass-kept 78 (omega arith) (omega arith), mass-kept 82 (omega arith) (omega arith), mass-kept 86 (omega arith) (omega arith), mass-kept 90 (omega arith) (omega arith)) refl
+      ∙ rw (
+        le16-kept 6 (inl (omega arith)) (inl (omega arith)),
+        le16-kept 4 (inl (omega arith)) (inl (omega arith)),
+        le16-kept 12 (inr (inl (omega arith, omega arith))) (inr (inl (omega arith, omega arith))),
+        id-kept 14 (omega arith) (omega arith),
+        id-kept 18 (omega arith) (omega arith),
+        id-kept 22 (omega arith) (omega arith),
+        id-kept 26 (omega arith) (omega arith),
+        mass-kept 78 (omega arith) (omega arith),
+        mass-kept 82 (omega arith) (omega arith),
+        mass-kept 86 (omega arith) (omega arith),
+        mass-kept 90 (omega arith) (omega arith),
+      ) refl
       ∙ sym (key-from c)

@@ -6,3 +6,5 @@ pub mod Points
 pub mod Run
 pub mod Kept
 pub mod Local
+pub mod Sizes
+pub mod PhaseLaws

@@ -8,7 +8,8 @@ use mathlib.Core.List.{List, [], _∷_}
 use native.Mathlib.Omega.{arith}
 use lib.Ieee.{Float}
 use Rattle.relisting.specs.Access.{Access, Local}
-use Rattle.relisting.specs.Build.{then-local, choose-local, nothing, nothing-local}
+use Rattle.relisting.specs.Steps.{nothing}
+use Rattle.relisting.specs.Build.{then-local, choose-local, nothing-local}
 use Rattle.relisting.specs.Stored.{stored, storing-local}
 use Rattle.neo_hookean.specs.NeoHookean.{isFresh}
 use Rattle.scalar.specs.declared.Response.{Response}
@@ -104,7 +105,7 @@ neo-kept r b k p =
     ∙ block-kept r b1 t k p
     ∙ pose-kept (r .pose) b k p
 
-constraint-kept : (c : Constraint) (b : List ℕ) → Kept (putConstraint c b) b
+pub constraint-kept : (c : Constraint) (b : List ℕ) → Kept (putConstraint c b) b
 unfolding putConstraint putCorotational
 constraint-kept (scalar r) b k p = scalar-kept r b k p
 constraint-kept (corotational r) b k p = volume-kept (r .volume) (putPose (r .pose) b) k p ∙ pose-kept (r .pose) b k p
@@ -122,13 +123,13 @@ impulses-kept l b k p =
     f32-kept (putFloats 6 b at.elasticStrainImpulse (l .strain)) at.elasticVolImpulse (l .vol) (high 446 4 (omega arith)) k p
     ∙ floats-kept 6 b at.elasticStrainImpulse (l .strain) (high 422 24 (omega arith)) k p
 
-warm-kept : (c : Constraint) (b : List ℕ) → Kept (warmConstraint c b) b
+pub warm-kept : (c : Constraint) (b : List ℕ) → Kept (warmConstraint c b) b
 unfolding warmConstraint
 warm-kept (scalar c) b k p = f32-kept b at.scalarImpulse (c .response .impulse) (high 166 4 (omega arith)) k p
 warm-kept (corotational c) b k p = impulses-kept (c .impulses) b k p
 warm-kept (neoHookean c) b k p = impulses-kept (c .impulses) b k p
 
-solve-kept : (c : Constraint) (b : List ℕ) → Kept (solveConstraint c b) b
+pub solve-kept : (c : Constraint) (b : List ℕ) → Kept (solveConstraint c b) b
 unfolding solveConstraint
 solve-kept (scalar c) b k p = f32-kept b at.scalarImpulse (c .response .impulse) (high 166 4 (omega arith)) k p
 solve-kept (corotational c) b k p = impulses-kept (c .impulses) b k p

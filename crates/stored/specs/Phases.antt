@@ -1,4 +1,4 @@
--- One row's update, warm start and solve on the bytes of its record alone: what its places hold goes in; the record anew and what each place is to lose come out. Definitions only. Assumes nothing.
+-- One row's update, warm start and solve on the bytes of its record alone: what its places hold goes in; the record anew and what each place is to lose come out. The functions of the code are proved equal to these. The rules of the run are made without them (Points.antt), and PhaseLaws.antt has that the two agree. A reader of the rules does not need this file, least of all its part by kind. Definitions only. Assumes nothing.
 use Prim.Native.Nat.{ℕ}
 use mathlib.Core.Bool.{Bool, cond}
 use mathlib.Core.List.{List}

@@ -4,8 +4,7 @@ use mathlib.Core.Bool.{Bool, true, false}
 use mathlib.Core.Option.{Option}
 use mathlib.Core.List.{List}
 use lib.Ieee.{Float}
-use Rattle.relisting.specs.Build.{_then_, choose, nothing}
-use Rattle.relisting.specs.Stored.{storing}
+use Rattle.relisting.specs.Steps.{_then_, choose, nothing, storing}
 use Rattle.vector.specs.Vector.{sub}
 use Rattle.vector.specs.declared.Vec3.{Vec3}
 use Rattle.records.specs.Layout as at

@@ -1,4 +1,4 @@
--- What a step puts back into the bytes of a row's record: the fields that the Rust assigns in an update, in a warm start and in a solve, and no others. Definitions only. Assumes nothing.
+-- What a step puts back into the bytes of a row's record: the fields that the Rust assigns in an update, in a warm start and in a solve; of `pos` and `grad` an update puts all (see there). Definitions only. Assumes nothing.
 use Prim.Native.Nat.{ℕ}
 use mathlib.Core.Bool.{Bool, cond}
 use mathlib.Core.List.{List}
@@ -21,7 +21,8 @@ use Rattle.floats.specs.Fields.{floatsAt, putF32, putFour, putMat3, putQuat, pu
 abbrev pub putFlag : List ℕ → ℕ → Bool → List ℕ
 putFlag b k t = patch b k (bytes2 (cond t 1 0))
 
--- ---- an update. (A position that is not fetched, and a gradient that a distance row leaves, are put back as they were read. That this leaves the same bytes is still to be proved.)
+-- ---- an update. It puts all of `pos`, and all of a scalar row's `grad`. For a place that is not fetched, and for the gradients that a distance row does not assign, what is put is what was read:
+-- for the finite floats of an accepted frame these are the same bytes, which is a law of the crate `unassigned`
 
 unfoldable pub putResponse : Response → List ℕ → List ℕ
 putResponse s b =

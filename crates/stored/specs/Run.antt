@@ -1,4 +1,4 @@
--- THE RUN of a whole frame: its rows and points swept, and laid behind its head again. Definitions only. Assumes nothing.
+-- THE RUN of a whole frame: its rows and points swept, and laid behind its head again; what it returns (`answers`) and what it leaves (`leaves`). Definitions only. Assumes nothing.
 use Prim.Native.Nat.{ℕ}
 use mathlib.Core.Bool.{Bool, cond, _||_}
 use mathlib.Core.List.{List, _++_}
@@ -10,7 +10,7 @@ use Rattle.records.specs.declared.Answer.{Answer}
 use Rattle.records.specs.Records.{flatten}
 use Rattle.frame.specs.Frames.{countN, modeOf, resweepsOf, head, points, rows}
 use Rattle.frame.specs.Check.{checkOf}
-use Rattle.relisting.specs.Sweep.{run}
+use Rattle.relisting.specs.Steps.{run}
 use Rattle.stored.specs.Points.{Points, mainStep, resweepStep}
 
 -- mode bit 0: update; bit 1: warm start. The mode of an accepted frame is 0 to 3
@@ -38,6 +38,10 @@ swept s =
 -- the bytes of an accepted frame after the run
 unfoldable pub runOf : List ℕ → List ℕ
 runOf s = lay (head s) (swept s)
+
+-- WHAT RUN RETURNS, whatever the frame: check's number and place
+abbrev pub answers : List ℕ → Answer
+answers s = checkOf s
 
 -- WHAT RUN LEAVES, whatever the frame: where check accepts it, the frame after the run; where check refuses it, the frame as it was
 unfoldable pub leaves : List ℕ → List ℕ

@@ -1,5 +1,6 @@
 //! Frames that `check` accepts, made record by record.
 
+use super::number_at;
 use crate::inputs::{finite_pattern, finite_special};
 use crate::layout::{HEAD, Holds, OVERFLOW, POINT, ROWS, Record, SCALAR};
 use crate::random::Random;
@@ -57,15 +58,48 @@ impl Frame {
         self.records.len() - 1
     }
 
-    /// Writes one part of a field of a record.
-    pub fn put(&mut self, number: usize, name: &str, index: usize, value: u32) {
+    /// Adds a record of these words, one for each part of its fields. Gives its number in `records`.
+    pub fn push_words(&mut self, record: &'static Record, words: &[u32]) -> usize {
+        let start = self.bytes.len();
+        self.bytes.extend(record.length.to_le_bytes());
+        self.bytes.extend(record.kind.to_le_bytes());
+        let mut words = words.iter();
+        for (part, word) in record.parts().zip(&mut words) {
+            self.bytes
+                .extend(&word.to_le_bytes()[..part.field.holds.width()]);
+        }
+        assert!(words.next().is_none(), "too many words");
+        assert_eq!(self.bytes.len(), start + record.size(), "too few words");
+        self.records.push((start, record));
+        self.records.len() - 1
+    }
+
+    /// Where one part of a field of a record lies, and how many bytes it takes.
+    fn place(&self, number: usize, name: &str, index: usize) -> (usize, usize) {
         let (start, record) = self.records[number];
         let mut parts = record.parts();
         let part = parts.find(|part| part.field.name == name && part.index == index);
         let part = part.expect("a part of this record");
-        let width = part.field.holds.width();
-        let at = start + part.offset;
+        (start + part.offset, part.field.holds.width())
+    }
+
+    /// Writes one part of a field of a record.
+    pub fn put(&mut self, number: usize, name: &str, index: usize, value: u32) {
+        let (at, width) = self.place(number, name, index);
         self.bytes[at..at + width].copy_from_slice(&value.to_le_bytes()[..width]);
+    }
+
+    /// Reads one part of a field of a record.
+    pub fn get(&self, number: usize, name: &str, index: usize) -> u32 {
+        let (at, width) = self.place(number, name, index);
+        number_at(&self.bytes, at, width)
+    }
+
+    /// The numbers in `records` of the rows.
+    pub fn rows(&self) -> std::ops::Range<usize> {
+        let is_row = |placed: &Placed| placed.1.kind > POINT.kind;
+        let first = self.records.iter().position(is_row);
+        first.unwrap_or(self.records.len())..self.records.len()
     }
 
     /// Writes the four ids of a row.
@@ -116,16 +150,16 @@ const FAR: [u32; 7] = [
 ];
 
 /// Which points the rows of the present colour name already.
-struct Taken {
-    points: u32,
-    colour: u32,
+pub(super) struct Taken {
+    pub(super) points: u32,
+    pub(super) colour: u32,
     /// For each point the last colour that named it, plus one.
-    last: Vec<u32>,
+    pub(super) last: Vec<u32>,
 }
 
 impl Taken {
     /// An id for a row of this colour to name: mostly a point in range, never one that is taken.
-    fn free(&self, random: &mut Random) -> u32 {
+    pub(super) fn free(&self, random: &mut Random) -> u32 {
         for _ in 0..8 {
             if self.points == 0 || random.one_in(8) {
                 break;
@@ -162,15 +196,15 @@ impl Taken {
 }
 
 /// How colours go from row to row.
-struct Colours {
-    now: u32,
+pub(super) struct Colours {
+    pub(super) now: u32,
     /// One row in so many has another colour than the row before, one in so many begins the overflow; 0 for none.
-    step: usize,
-    overflow: usize,
+    pub(super) step: usize,
+    pub(super) overflow: usize,
 }
 
 impl Colours {
-    fn new(random: &mut Random, rows: usize) -> Self {
+    pub(super) fn new(random: &mut Random, rows: usize) -> Self {
         Self {
             now: random.pick(&[0, 0, 0, 1, 255, 256, 65534, 65535]),
             step: random.pick(&[0, 1, 2, 8, 64]),
@@ -178,7 +212,7 @@ impl Colours {
         }
     }
 
-    fn next(&mut self, random: &mut Random) -> u32 {
+    pub(super) fn next(&mut self, random: &mut Random) -> u32 {
         if self.step != 0 && random.one_in(self.step) {
             let up = random.pick(&[1, 1, 1, 2, 255, 256]);
             self.now = (self.now + up).min(OVERFLOW.into());

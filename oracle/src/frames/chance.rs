@@ -46,6 +46,15 @@ fn sizes(random: &mut Random) -> (u32, usize) {
     (up_to(points) as u32, up_to(rows))
 }
 
+/// The bytes of a frame with one fault, or with two or three.
+pub fn damaged(random: &mut Random, frame: &Frame) -> Vec<u8> {
+    let mut bytes = frame.bytes.clone();
+    for _ in 0..random.pick(&[1, 1, 1, 2, 3]) {
+        damage(random, frame, &mut bytes);
+    }
+    bytes
+}
+
 /// Makes one fault, or what looks like one. `frame` says where the records were before.
 fn damage(random: &mut Random, frame: &Frame, bytes: &mut Vec<u8>) {
     let (start, record) = random.pick(&frame.records);

@@ -5,10 +5,14 @@
 mod accepted;
 mod chance;
 mod rule;
+mod runs;
+mod sheet;
 mod values;
 
 pub use accepted::{Frame, accepted, kinds};
-pub use chance::{ACCEPTED, some};
+pub use chance::{ACCEPTED, damaged, some};
+pub use runs::{SORTS, Sizes, exchanged_overflow, relisting, runs};
+pub use sheet::{Element, Sheet, sheet};
 
 use crate::random::Random;
 use std::cell::Cell;

@@ -26,7 +26,7 @@ pub(super) fn six(mut f: impl FnMut(usize) -> f32) -> StrainVector {
 }
 
 /// The inverse of a 3×3 matrix, near enough to make a rest shape.
-pub(super) fn inverse(m: Matrix) -> Matrix {
+pub(crate) fn inverse(m: Matrix) -> Matrix {
     cofactor(&m).transpose() * (1.0 / m.determinant())
 }
 

@@ -1,0 +1,21 @@
+-- `cell_record::put_impulses` meets its contract. One put after another. Assumes nothing.
+use borrow.Author.Needs.{needs}
+use Rattle.stored.specs.Put.{putImpulses}
+use Rattle.cell_record.proofs.put_impulses.Statement.{statement}
+use Rattle.cell_record.proofs.put_impulses.Tie as tie
+
+put-floats6-requires : tie.Need-put-floats6-requires
+put-floats6-requires c κs = search needs
+
+put-f32-requires : tie.Need-put-f32-requires
+put-f32-requires c κs = search needs
+
+same-length : tie.Need-same-length
+same-length c = search needs
+
+returns : tie.Need-returns
+unfolding putImpulses
+returns c = cc
+
+pub put-impulses-spec : {M : Type 1} → statement M
+put-impulses-spec = tie.close (tie.spec put-floats6-requires put-f32-requires same-length returns)

@@ -1,0 +1,109 @@
+// What both elastic rows share on the bytes of a record: the pose anew, the impulses, and both put back.
+ghost use mathlib.Core.Bool.{cond};
+ghost use mathlib.Core.Path.{_≡_};
+ghost use Prim.Native.Nat.{_+_, _≤_};
+ghost use lib.ListN.{length};
+ghost use Rattle.records.specs.Layout as at;
+ghost use Rattle.cell.specs.Cell as cell;
+ghost use Rattle.stored.specs.Read.{cellOf, poseOf, impulsesOf};
+ghost use Rattle.stored.specs.Put.{putFlag, putPose, putImpulses};
+ghost use Rattle.cell_record.specs.Anew.{posAnew, deformationAnew, posedAnew};
+use cell::Impulses;
+use cell::Pose;
+use places::Holds;
+use records::layout;
+use vector::Four;
+use vector::Mat3;
+
+// ---- flags
+
+fn flag_of(t: bool) -> u16
+    ensures { λ r. ⌜ r ≡ cond t 1 0 ⌝ }
+{
+    if t { 1 } else { 0 }
+}
+
+fn put_flag(b: &mut [u8], k: usize, t: bool)
+    requires { ⌜ k + 2 ≤ length (now b) ⌝ }
+    ensures { λ _. ⌜ now (b .exit) ≡ putFlag (now (b .entry)) k t ⌝ }
+{
+    bytes::put_u16(b, k, flag_of(t));
+}
+
+pub fn put_strained(b: &mut [u8], strain: &[f32; 6], least: f32)
+    requires { ⌜ 450 ≤ length (now b) ⌝ }
+    ensures { λ _. ⌜ now (b .exit) ≡ putFlag (now (b .entry)) at.rowStrained (cell.isStrained (now (strain .entry)) least) ⌝ }
+{
+    put_flag(
+        b,
+        layout::ROW_STRAINED,
+        cell::update::is_strained(strain, least),
+    );
+}
+
+// ---- the pose: only what an update uses of the last one is read
+
+pub fn pos_anew(b: &[u8], held: Holds) -> Four
+    requires { ⌜ 450 ≤ length (now b) ⌝ }
+    ensures { λ r. ⌜ r ≡ posAnew held (now (b .entry)) ⌝ }
+{
+    places::refreshed(held, floats::four_at(b, layout::ROW_POS))
+}
+
+pub fn deformation_anew(b: &[u8], pos: Four) -> Mat3
+    requires { ⌜ 450 ≤ length (now b) ⌝ }
+    ensures { λ r. ⌜ r ≡ deformationAnew pos (now (b .entry)) ⌝ }
+{
+    let inv_rest = floats::mat3_at(b, layout::ELASTIC_INV_REST_MATRIX);
+    cell::update::deformation_gradient(pos, inv_rest)
+}
+
+pub fn posed_anew(b: &[u8], pos: Four, f: Mat3) -> Pose
+    requires { ⌜ 450 ≤ length (now b) ⌝ }
+    ensures { λ r. ⌜ r ≡ posedAnew pos f (now (b .entry)) ⌝ }
+{
+    let caps = floats::floats6_at(b, layout::ELASTIC_STRAIN_CAP);
+    let warm = floats::quat_at(b, layout::ELASTIC_ROTATION);
+    cell::update::posed(&caps, warm, pos, f)
+}
+
+pub fn pose_anew(b: &[u8], held: Holds) -> Pose
+    requires { ⌜ 450 ≤ length (now b) ⌝ }
+    ensures { λ r. ⌜ r ≡ cell.updatePose (cellOf (now (b .entry))) (poseOf (now (b .entry))) held ⌝ }
+{
+    let pos = pos_anew(b, held);
+    let f = deformation_anew(b, pos);
+    posed_anew(b, pos, f)
+}
+
+pub fn put_pose(b: &mut [u8], p: Pose)
+    requires { ⌜ 450 ≤ length (now b) ⌝ }
+    ensures { λ _. ⌜ now (b .exit) ≡ putPose p (now (b .entry)) ⌝ }
+{
+    let strain = p.strain;
+    put_flag(b, layout::ELASTIC_INVERTED, p.inverted);
+    floats::put_four(b, layout::ROW_POS, p.pos);
+    floats::put_quat(b, layout::ELASTIC_ROTATION, p.rotation);
+    floats::put_mat3(b, layout::ELASTIC_ROT_MAT, p.rot_mat);
+    floats::put_floats6(b, layout::ELASTIC_STRAIN, &strain);
+}
+
+// ---- the impulses
+
+pub fn impulses_of(b: &[u8]) -> Impulses
+    requires { ⌜ 450 ≤ length (now b) ⌝ }
+    ensures { λ r. ⌜ r ≡ impulsesOf (now (b .entry)) ⌝ }
+{
+    let strain = floats::floats6_at(b, layout::ELASTIC_STRAIN_IMPULSE);
+    let vol = bytes::get_f32(b, layout::ELASTIC_VOL_IMPULSE);
+    Impulses { strain, vol }
+}
+
+pub fn put_impulses(b: &mut [u8], l: Impulses)
+    requires { ⌜ 450 ≤ length (now b) ⌝ }
+    ensures { λ _. ⌜ now (b .exit) ≡ putImpulses l (now (b .entry)) ⌝ }
+{
+    let strain = l.strain;
+    floats::put_floats6(b, layout::ELASTIC_STRAIN_IMPULSE, &strain);
+    bytes::put_f32(b, layout::ELASTIC_VOL_IMPULSE, l.vol);
+}

@@ -1,0 +1,39 @@
+-- `corotational_record::springs_of` meets its contract. Its calls are the definition's. Assumes nothing.
+use borrow.Author.Needs.{needs}
+use Rattle.stored.specs.Read.{springsOf}
+use Rattle.corotational_record.proofs.springs_of.Statement.{statement}
+use Rattle.corotational_record.proofs.springs_of.Tie as tie
+
+floats6-at-requires : tie.Need-floats6-at-requires
+floats6-at-requires c κs = search needs
+
+floats6-at-requires-2 : tie.Need-floats6-at-requires-2
+floats6-at-requires-2 c κs = search needs
+
+get-f32-requires : tie.Need-get-f32-requires
+get-f32-requires c κs = search needs
+
+get-f32-requires-2 : tie.Need-get-f32-requires-2
+get-f32-requires-2 c κs = search needs
+
+get-f32-requires-3 : tie.Need-get-f32-requires-3
+get-f32-requires-3 c κs = search needs
+
+get-u16-requires : tie.Need-get-u16-requires
+get-u16-requires c κs = search needs
+
+returns : tie.Need-returns
+unfolding springsOf
+returns c = cc
+
+pub springs-of-spec : {M : Type 1} → statement M
+springs-of-spec =
+    tie.close
+    (tie.spec
+    floats6-at-requires
+    floats6-at-requires-2
+    get-f32-requires
+    get-f32-requires-2
+    get-f32-requires-3
+    get-u16-requires
+    returns)

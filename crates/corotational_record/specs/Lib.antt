@@ -1,0 +1,2 @@
+-- The corotational row on the bytes of its record. Assumes nothing.
+pub mod Parts

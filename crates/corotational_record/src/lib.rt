@@ -1,0 +1,152 @@
+// The phases of a corotational row on the bytes of its record, in place. Each reads what it uses and writes what it assigns. An update writes all of
+// `pos`: a position that is not fetched as it was read.
+ghost use mathlib.Core.Path.{_≡_};
+ghost use Prim.Native.Nat.{_≤_};
+ghost use lib.ListN.{length};
+ghost use Rattle.corotational.specs.Row as c;
+ghost use Rattle.stored.specs.Read.{springsOf, volumeOf, corotationalOf};
+ghost use Rattle.stored.specs.Put.{putVolume};
+ghost use Rattle.stored.specs.Phases.{updateCorotational, warmCorotational, solveCorotational};
+ghost use Rattle.corotational_record.specs.Parts.{volumeAnew};
+use bytes::get_f32;
+use bytes::put_f32;
+use cell::Solved;
+use cell_record::impulses_of;
+use cell_record::put_impulses;
+use corotational::Springs;
+use corotational::Volume;
+use floats::floats6_at;
+use floats::floats36_at;
+use floats::four_at;
+use floats::masses_at;
+use floats::mat3_at;
+use places::Holds;
+use records::layout;
+use vector::Four;
+use vector::Mat3;
+
+// ---- update
+
+fn springs_of(b: &[u8]) -> Springs
+    requires { ⌜ 618 ≤ length (now b) ⌝ }
+    ensures { λ r. ⌜ r ≡ springsOf (now (b .entry)) ⌝ }
+{
+    let erp_strain = floats6_at(b, layout::CORO_ERP_STRAIN);
+    let cfm_strain = floats6_at(b, layout::CORO_CFM_STRAIN);
+    Springs {
+        erp_strain,
+        cfm_strain,
+        erp_vol: get_f32(b, layout::CORO_ERP_VOL),
+        cfm_coeff_vol: get_f32(b, layout::CORO_CFM_COEFF_VOL),
+        vol_cap: get_f32(b, layout::CORO_VOL_CAP),
+        volumetric: bytes::get_u16(b, layout::ELASTIC_FOURTH) == 1,
+    }
+}
+
+// With f the deformation gradient, and rot and `inverted` those of the same update.
+fn volume_anew(b: &[u8], rot: Mat3, inverted: bool, f: Mat3) -> Volume
+    requires { ⌜ 618 ≤ length (now b) ⌝ }
+    ensures { λ r. ⌜ r ≡ volumeAnew rot inverted f (now (b .entry)) ⌝ }
+{
+    let inv_rest = mat3_at(b, layout::ELASTIC_INV_REST_MATRIX);
+    let coeffs = four_at(b, layout::ELASTIC_COEFFS);
+    let im = masses_at(b, layout::ROW_IM);
+    let springs = springs_of(b);
+    let inv_a = floats36_at(b, layout::ELASTIC_INV_A);
+    corotational::volumetric::update_volume(inv_rest, coeffs, im, springs, &inv_a, rot, inverted, f)
+}
+
+fn put_volume(b: &mut [u8], v: Volume)
+    requires { ⌜ 618 ≤ length (now b) ⌝ }
+    ensures { λ _. ⌜ now (b .exit) ≡ putVolume v (now (b .entry)) ⌝ }
+{
+    let coupling = v.b;
+    let z = v.z;
+    floats::put_four(b, layout::CORO_GRAD_VOL, v.grad_vol);
+    put_f32(b, layout::CORO_CFM_GAIN_VOL, v.cfm_gain_vol);
+    put_f32(b, layout::CORO_RHS_VOL, v.rhs_vol);
+    floats::put_floats6(b, layout::CORO_B, &coupling);
+    floats::put_floats6(b, layout::CORO_Z, &z);
+    put_f32(b, layout::CORO_INV_S, v.inv_s);
+}
+
+pub fn update_corotational(b: &mut [u8], held: Holds, least: f32)
+    requires { ⌜ 618 ≤ length (now b) ⌝ }
+    ensures { λ _. ⌜ now (b .exit) ≡ updateCorotational least held (now (b .entry)) ⌝ }
+{
+    let pos = cell_record::pos_anew(b, held);
+    let f = cell_record::deformation_anew(b, pos);
+    let pose = cell_record::posed_anew(b, pos, f);
+    let volume = volume_anew(b, pose.rot_mat, pose.inverted, f);
+    let strain = pose.strain;
+    cell_record::put_pose(b, pose);
+    put_volume(b, volume);
+    cell_record::put_strained(b, &strain, least);
+}
+
+// ---- warm start
+
+fn warmed(b: &[u8], coeff: f32) -> Solved
+    requires { ⌜ 618 ≤ length (now b) ⌝ }
+    ensures { λ r. ⌜ r ≡ c.warmstart (corotationalOf (now (b .entry))) coeff ⌝ }
+{
+    let rot = mat3_at(b, layout::ELASTIC_ROT_MAT);
+    let coeffs = four_at(b, layout::ELASTIC_COEFFS);
+    let im = masses_at(b, layout::ROW_IM);
+    let l = impulses_of(b);
+    let grad = four_at(b, layout::CORO_GRAD_VOL);
+    corotational::block::warmstart_corotational(rot, coeffs, im, l, grad, coeff)
+}
+
+// The loss of each place is returned.
+pub fn warm_corotational(b: &mut [u8], coeff: f32) -> Four
+    requires { ⌜ 618 ≤ length (now b) ⌝ }
+    ensures { λ r. ⌜ (now (b .exit) ≡ warmCorotational coeff (now (b .entry))) × (r ≡ c.warmstart (corotationalOf (now (b .entry))) coeff .loss) ⌝ }
+{
+    let s = warmed(b, coeff);
+    put_impulses(b, s.impulses);
+    s.loss
+}
+
+// ---- solve
+
+fn volume_of(b: &[u8]) -> Volume
+    requires { ⌜ 618 ≤ length (now b) ⌝ }
+    ensures { λ r. ⌜ r ≡ volumeOf (now (b .entry)) ⌝ }
+{
+    let coupling = floats6_at(b, layout::CORO_B);
+    let z = floats6_at(b, layout::CORO_Z);
+    Volume {
+        grad_vol: four_at(b, layout::CORO_GRAD_VOL),
+        cfm_gain_vol: get_f32(b, layout::CORO_CFM_GAIN_VOL),
+        rhs_vol: get_f32(b, layout::CORO_RHS_VOL),
+        b: coupling,
+        z,
+        inv_s: get_f32(b, layout::CORO_INV_S),
+    }
+}
+
+fn solved(b: &[u8], vel: Holds) -> Solved
+    requires { ⌜ 618 ≤ length (now b) ⌝ }
+    ensures { λ r. ⌜ r ≡ c.solve (corotationalOf (now (b .entry))) vel ⌝ }
+{
+    let strain = floats6_at(b, layout::ELASTIC_STRAIN);
+    let inv_a = floats36_at(b, layout::ELASTIC_INV_A);
+    let erp = floats6_at(b, layout::CORO_ERP_STRAIN);
+    let cfm = floats6_at(b, layout::CORO_CFM_STRAIN);
+    let rot = mat3_at(b, layout::ELASTIC_ROT_MAT);
+    let coeffs = four_at(b, layout::ELASTIC_COEFFS);
+    let im = masses_at(b, layout::ROW_IM);
+    let l = impulses_of(b);
+    let u = volume_of(b);
+    corotational::block::solve_corotational(rot, coeffs, im, &strain, &inv_a, &erp, &cfm, l, u, vel)
+}
+
+pub fn solve_corotational(b: &mut [u8], vel: Holds) -> Four
+    requires { ⌜ 618 ≤ length (now b) ⌝ }
+    ensures { λ r. ⌜ (now (b .exit) ≡ solveCorotational vel (now (b .entry))) × (r ≡ c.solve (corotationalOf (now (b .entry))) vel .loss) ⌝ }
+{
+    let s = solved(b, vel);
+    put_impulses(b, s.impulses);
+    s.loss
+}

@@ -1,0 +1,3 @@
+-- Laws of what is put into a record. Assumes nothing.
+pub mod Lengths
+pub mod Same

@@ -1,0 +1,181 @@
+// Vectors, matrices and lists of floats at a byte of a record, read and put in place.
+ghost use mathlib.Core.Path.{_≡_};
+ghost use Prim.Native.Nat.{ℕ, _+_, _*_, _≤_};
+ghost use lib.ListN.{length};
+ghost use Rattle.floats.specs.Fields as spec;
+use bytes::get_f32;
+use bytes::get_u32;
+use bytes::put_f32;
+use places::Ids;
+use places::Masses;
+use vector::Four;
+use vector::Mat3;
+use vector::Quat;
+use vector::Vec3;
+
+// ---- read
+
+pub fn vec3_at(b: &[u8], k: usize) -> Vec3
+    requires { ⌜ k + 12 ≤ length (now b) ⌝ }
+    ensures { λ r. ⌜ r ≡ spec.vec3At (now (b .entry)) k ⌝ }
+{
+    Vec3 {
+        x: get_f32(b, k),
+        y: get_f32(b, k + 4),
+        z: get_f32(b, k + 8),
+    }
+}
+
+pub fn four_at(b: &[u8], k: usize) -> Four
+    requires { ⌜ k + 48 ≤ length (now b) ⌝ }
+    ensures { λ r. ⌜ r ≡ spec.fourAt (now (b .entry)) k ⌝ }
+{
+    Four {
+        a: vec3_at(b, k),
+        b: vec3_at(b, k + 12),
+        c: vec3_at(b, k + 24),
+        d: vec3_at(b, k + 36),
+    }
+}
+
+pub fn mat3_at(b: &[u8], k: usize) -> Mat3
+    requires { ⌜ k + 36 ≤ length (now b) ⌝ }
+    ensures { λ r. ⌜ r ≡ spec.mat3At (now (b .entry)) k ⌝ }
+{
+    Mat3 {
+        x: vec3_at(b, k),
+        y: vec3_at(b, k + 12),
+        z: vec3_at(b, k + 24),
+    }
+}
+
+pub fn quat_at(b: &[u8], k: usize) -> Quat
+    requires { ⌜ k + 16 ≤ length (now b) ⌝ }
+    ensures { λ r. ⌜ r ≡ spec.quatAt (now (b .entry)) k ⌝ }
+{
+    Quat {
+        x: get_f32(b, k),
+        y: get_f32(b, k + 4),
+        z: get_f32(b, k + 8),
+        w: get_f32(b, k + 12),
+    }
+}
+
+pub fn masses_at(b: &[u8], k: usize) -> Masses
+    requires { ⌜ k + 16 ≤ length (now b) ⌝ }
+    ensures { λ r. ⌜ r ≡ spec.massesAt (now (b .entry)) k ⌝ }
+{
+    Masses {
+        a: get_f32(b, k),
+        b: get_f32(b, k + 4),
+        c: get_f32(b, k + 8),
+        d: get_f32(b, k + 12),
+    }
+}
+
+pub fn ids_at(b: &[u8], k: usize) -> Ids
+    requires { ⌜ k + 16 ≤ length (now b) ⌝ }
+    ensures { λ r. ⌜ r ≡ spec.idsAt (now (b .entry)) k ⌝ }
+{
+    Ids {
+        a: get_u32(b, k),
+        b: get_u32(b, k + 4),
+        c: get_u32(b, k + 8),
+        d: get_u32(b, k + 12),
+    }
+}
+
+// As many floats as `out` holds.
+fn get_floats(b: &[u8], k: usize, out: &mut [f32])
+    requires { ⌜ k + 4 * length (now out) ≤ length (now b) ⌝ }
+    ensures { λ _. ⌜ now (out .exit) ≡ spec.floatsAt (length (now (out .entry))) (now (b .entry)) k ⌝ }
+{
+    let mut i: usize = 0;
+    while i < out.len() {
+        out[i] = get_f32(b, k + 4 * i);
+        i += 1;
+    }
+}
+
+pub fn floats6_at(b: &[u8], k: usize) -> [f32; 6]
+    requires { ⌜ k + 24 ≤ length (now b) ⌝ }
+    ensures { λ r. ⌜ r ≡ spec.floatsAt 6 (now (b .entry)) k ⌝ }
+{
+    let mut v = [0.0f32; 6];
+    get_floats(b, k, &mut v);
+    v
+}
+
+pub fn floats36_at(b: &[u8], k: usize) -> [f32; 36]
+    requires { ⌜ k + 144 ≤ length (now b) ⌝ }
+    ensures { λ r. ⌜ r ≡ spec.floatsAt 36 (now (b .entry)) k ⌝ }
+{
+    let mut v = [0.0f32; 36];
+    get_floats(b, k, &mut v);
+    v
+}
+
+// ---- put
+
+pub fn put_vec3(b: &mut [u8], k: usize, v: Vec3)
+    requires { ⌜ k + 12 ≤ length (now b) ⌝ }
+    ensures { λ _. ⌜ now (b .exit) ≡ spec.putVec3 (now (b .entry)) k v ⌝ }
+{
+    put_f32(b, k, v.x);
+    put_f32(b, k + 4, v.y);
+    put_f32(b, k + 8, v.z);
+}
+
+pub fn put_four(b: &mut [u8], k: usize, v: Four)
+    requires { ⌜ k + 48 ≤ length (now b) ⌝ }
+    ensures { λ _. ⌜ now (b .exit) ≡ spec.putFour (now (b .entry)) k v ⌝ }
+{
+    put_vec3(b, k, v.a);
+    put_vec3(b, k + 12, v.b);
+    put_vec3(b, k + 24, v.c);
+    put_vec3(b, k + 36, v.d);
+}
+
+pub fn put_mat3(b: &mut [u8], k: usize, m: Mat3)
+    requires { ⌜ k + 36 ≤ length (now b) ⌝ }
+    ensures { λ _. ⌜ now (b .exit) ≡ spec.putMat3 (now (b .entry)) k m ⌝ }
+{
+    put_vec3(b, k, m.x);
+    put_vec3(b, k + 12, m.y);
+    put_vec3(b, k + 24, m.z);
+}
+
+pub fn put_quat(b: &mut [u8], k: usize, q: Quat)
+    requires { ⌜ k + 16 ≤ length (now b) ⌝ }
+    ensures { λ _. ⌜ now (b .exit) ≡ spec.putQuat (now (b .entry)) k q ⌝ }
+{
+    put_f32(b, k, q.x);
+    put_f32(b, k + 4, q.y);
+    put_f32(b, k + 8, q.z);
+    put_f32(b, k + 12, q.w);
+}
+
+fn put_floats(b: &mut [u8], k: usize, l: &[f32])
+    requires { ⌜ k + 4 * length (now l) ≤ length (now b) ⌝ }
+    ensures { λ _. ⌜ now (b .exit) ≡ spec.putFloats (length (now (l .entry))) (now (b .entry)) k (now (l .entry)) ⌝ }
+{
+    let mut i: usize = 0;
+    while i < l.len() {
+        put_f32(b, k + 4 * i, l[i]);
+        i += 1;
+    }
+}
+
+pub fn put_floats6(b: &mut [u8], k: usize, l: &[f32; 6])
+    requires { ⌜ k + 24 ≤ length (now b) ⌝ }
+    ensures { λ _. ⌜ now (b .exit) ≡ spec.putFloats 6 (now (b .entry)) k (now (l .entry)) ⌝ }
+{
+    put_floats(b, k, l);
+}
+
+pub fn put_floats36(b: &mut [u8], k: usize, l: &[f32; 36])
+    requires { ⌜ k + 144 ≤ length (now b) ⌝ }
+    ensures { λ _. ⌜ now (b .exit) ≡ spec.putFloats 36 (now (b .entry)) k (now (l .entry)) ⌝ }
+{
+    put_floats(b, k, l);
+}

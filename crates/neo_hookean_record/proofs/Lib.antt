@@ -1,0 +1,2 @@
+-- Laws of a neo-Hookean row's update on its record. Assumes nothing.
+pub mod Moved

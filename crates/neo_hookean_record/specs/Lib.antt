@@ -1,0 +1,2 @@
+-- The neo-Hookean row on the bytes of its record. Assumes nothing.
+pub mod Parts

@@ -1,0 +1,2 @@
+-- A row of each kind. Assumes nothing.
+pub mod ByKind

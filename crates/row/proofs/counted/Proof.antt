@@ -1,0 +1,15 @@
+-- `row::counted` meets its contract. Assumes nothing.
+use borrow.Author.Tests.{lt-ltb, le-ltb}
+use Rattle.row.proofs.counted.Statement.{statement}
+use Rattle.row.proofs.counted.Tie as tie
+use Rattle.row.proofs.counted.Reads as reads
+use Rattle.row.proofs.counted.Lts as lts
+
+returns : tie.Need-returns
+returns c = simp (lt-ltb _ _ (c .if1 .taken))
+
+returns-2 : tie.Need-returns-2
+returns-2 c = simp (le-ltb _ _ (c .if1 .left))
+
+pub counted-spec : {M : Type 1} → statement M
+counted-spec = tie.close (tie.spec returns returns-2)

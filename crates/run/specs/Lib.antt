@@ -1,0 +1,2 @@
+-- How a run starts. Assumes nothing.
+pub mod Start

@@ -1,0 +1,19 @@
+-- `scalar_record::put_flag` meets its contract. Its calls are the definition's. Assumes nothing.
+use borrow.Author.Needs.{needs}
+use Rattle.scalar_record.proofs.put_flag.Statement.{statement}
+use Rattle.scalar_record.proofs.put_flag.Tie as tie
+
+flag-requires : tie.Need-flag-requires
+flag-requires c κs = search needs
+
+put-u16-requires : tie.Need-put-u16-requires
+put-u16-requires c κs = search needs
+
+same-length : tie.Need-same-length
+same-length c = search needs
+
+returns : tie.Need-returns
+returns c = cc
+
+pub put-flag-spec : {M : Type 1} → statement M
+put-flag-spec = tie.close (tie.spec flag-requires put-u16-requires same-length returns)

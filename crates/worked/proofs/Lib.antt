@@ -1,0 +1,2 @@
+-- That the worked examples hold. Assumes nothing.
+pub mod Whole

@@ -1,0 +1,3 @@
+-- Document 01's worked examples. Assumes nothing.
+pub mod Sheets
+pub mod Table
