@@ -7,7 +7,10 @@ mod of_parts;
 mod of_scalar;
 mod points; // the points of a record
 
+ghost use mathlib.Core.Path.{_≡_};
 ghost use Prim.Native.Nat.{_≤_};
+ghost use Rattle.replay.specs.Tallies.{miss, Tallied, Replayed};
+ghost use Rattle.replay_rows.specs.Agrees.{agreed};
 use of_corotational::Corotational;
 use of_neo_hookean::NeoHookean;
 use of_parts::Part;
@@ -22,6 +25,7 @@ enum Function {
     NeoHookean(NeoHookean),
 }
 
+// It only writes, which no contract can say.
 fn main() {
     let t = Tally {
         records: 0,
@@ -37,6 +41,7 @@ fn main() {
 // Replays the file of a function, whose records have `size` words, and adds what came of it to `t`.
 fn replay_file(t: Tally, name: &[u8], f: Function, size: usize) -> Tally
     requires { ⌜ (1 ≤ size) × (size ≤ 400) ⌝ }
+    ensures { λ r. ⌜ Replayed (agreed f) size t r ⌝ }
 {
     let mut buf = [0u8; 131072];
     let n = replay::read(name, &mut buf);
@@ -47,7 +52,7 @@ fn replay_file(t: Tally, name: &[u8], f: Function, size: usize) -> Tally
 
 fn walk(s: &[u8], f: Function, size: usize) -> Tally
     requires { ⌜ (1 ≤ size) × (size ≤ 400) ⌝ }
-    ensures { λ r. ⌜ r .differ ≤ r .records ⌝ }
+    ensures { λ r. ⌜ Tallied (agreed f) (now (s .entry)) size r ⌝ }
 {
     let mut records: u64 = 0;
     let mut differ: u64 = 0;
@@ -63,12 +68,14 @@ fn walk(s: &[u8], f: Function, size: usize) -> Tally
 
 // 0 where the function answers as the record says, 1 where it does not.
 fn differs(f: Function, w: &[u32; 400]) -> u64
-    ensures { λ r. ⌜ r ≤ 1 ⌝ }
+    ensures { λ r. ⌜ (r ≡ miss (agreed f (now (w .entry)))) × (r ≤ 1) ⌝ }
 {
     if agrees(f, w) { 0 } else { 1 }
 }
 
-fn agrees(f: Function, w: &[u32; 400]) -> bool {
+fn agrees(f: Function, w: &[u32; 400]) -> bool
+    ensures { λ r. ⌜ r ≡ agreed f (now (w .entry)) ⌝ }
+{
     match f {
         Function::Part(f) => of_parts::agrees(f, w),
         Function::Scalar(f) => of_scalar::agrees(f, w),

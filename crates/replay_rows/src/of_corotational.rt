@@ -1,4 +1,8 @@
 // The row functions of the crate `corotational`. A row has 155 words.
+ghost use mathlib.Core.Path.{_≡_};
+ghost use Rattle.replay.specs.Tallies.{Through};
+ghost use Rattle.replay_rows.specs.OfCorotational as spec;
+ghost use Rattle.corotational.specs.Row.{withImpulses};
 ghost use Prim.Native.Nat.{_+_, _≤_};
 use crate::Function;
 use crate::elastic;
@@ -29,7 +33,9 @@ pub(crate) enum Corotational {
 }
 
 // Each with the words of its records.
-pub(crate) fn all(t: Tally) -> Tally {
+pub(crate) fn all(t: Tally) -> Tally
+    ensures { λ r. ⌜ Through spec.files t r ⌝ }
+{
     let t = replay_file(t, b"corotational_update.bin", Function::Corotational(Corotational::Update), 341);
     let t = replay_file(t, b"corotational_warmstart.bin", Function::Corotational(Corotational::Warmstart), 201);
     let t = replay_file(t, b"corotational_solve.bin", Function::Corotational(Corotational::Solve), 356);
@@ -39,7 +45,9 @@ pub(crate) fn all(t: Tally) -> Tally {
 }
 
 // Whether the function's answer to the record's first words is what stands after them.
-pub(crate) fn agrees(f: Corotational, w: &[u32; 400]) -> bool {
+pub(crate) fn agrees(f: Corotational, w: &[u32; 400]) -> bool
+    ensures { λ r. ⌜ r ≡ spec.ofCorotational f (now (w .entry)) ⌝ }
+{
     match f {
         Corotational::Update => update_is(w),
         Corotational::Warmstart => warmstart_is(w),
@@ -61,6 +69,7 @@ struct Scene {
 // The points from word p on, the row from word k on.
 fn scene_of(w: &[u32; 400], p: usize, k: usize) -> Scene
     requires { ⌜ (p + 31 ≤ 400) × (k + 155 ≤ 400) ⌝ }
+    ensures { λ r. ⌜ r ≡ spec.sceneOf (now (w .entry)) p k ⌝ }
 {
     let row = row(w, k);
     Scene {
@@ -70,13 +79,17 @@ fn scene_of(w: &[u32; 400], p: usize, k: usize) -> Scene
     }
 }
 
-fn with_impulses(r: CorotationalRow, i: Impulses) -> CorotationalRow {
+fn with_impulses(r: CorotationalRow, i: Impulses) -> CorotationalRow
+    ensures { λ q. ⌜ q ≡ withImpulses r i ⌝ }
+{
     let mut q = r;
     q.impulses = i;
     q
 }
 
-fn after(s: Scene, x: Solved) -> Scene {
+fn after(s: Scene, x: Solved) -> Scene
+    ensures { λ r. ⌜ r ≡ spec.after s x ⌝ }
+{
     let row = with_impulses(s.row, x.impulses);
     let seen = points::lost(s.seen, x.loss);
     Scene {
@@ -86,16 +99,22 @@ fn after(s: Scene, x: Solved) -> Scene {
     }
 }
 
-fn warmed(s: Scene, coeff: f32) -> Scene {
+fn warmed(s: Scene, coeff: f32) -> Scene
+    ensures { λ r. ⌜ r ≡ spec.warmed s coeff ⌝ }
+{
     after(s, corotational::warmstart(s.row, coeff))
 }
 
-fn solved(s: Scene) -> Scene {
+fn solved(s: Scene) -> Scene
+    ensures { λ r. ⌜ r ≡ spec.solved s ⌝ }
+{
     after(s, corotational::solve(s.row, points::velocities(s.seen)))
 }
 
 // Where bit 0 of the mode is set: the update and the flag.
-fn begun(s: Scene, w: &[u32; 400]) -> Scene {
+fn begun(s: Scene, w: &[u32; 400]) -> Scene
+    ensures { λ r. ⌜ r ≡ spec.begun s (now (w .entry)) ⌝ }
+{
     if w[0] % 2 == 0 {
         return s;
     }
@@ -109,7 +128,9 @@ fn begun(s: Scene, w: &[u32; 400]) -> Scene {
 }
 
 // And where bit 1 is: the warm start.
-fn main_step(w: &[u32; 400]) -> Scene {
+fn main_step(w: &[u32; 400]) -> Scene
+    ensures { λ r. ⌜ r ≡ spec.mainStep (now (w .entry)) ⌝ }
+{
     let s = begun(scene_of(w, 3, 34), w);
     if w[0] / 2 % 2 == 0 {
         return solved(s);
@@ -117,7 +138,9 @@ fn main_step(w: &[u32; 400]) -> Scene {
     solved(warmed(s, float(w, 1)))
 }
 
-fn resweep_step(w: &[u32; 400]) -> Scene {
+fn resweep_step(w: &[u32; 400]) -> Scene
+    ensures { λ r. ⌜ r ≡ spec.resweepStep (now (w .entry)) ⌝ }
+{
     let s = scene_of(w, 0, 31);
     if s.strained { solved(s) } else { s }
 }
@@ -126,6 +149,7 @@ fn resweep_step(w: &[u32; 400]) -> Scene {
 
 fn row(w: &[u32; 400], k: usize) -> CorotationalRow
     requires { ⌜ k + 155 ≤ 400 ⌝ }
+    ensures { λ r. ⌜ r ≡ spec.row (now (w .entry)) k ⌝ }
 {
     let inv_a = flat(w, k + 58);
     CorotationalRow {
@@ -140,6 +164,7 @@ fn row(w: &[u32; 400], k: usize) -> CorotationalRow
 
 fn springs(w: &[u32; 400], k: usize) -> Springs
     requires { ⌜ k + 155 ≤ 400 ⌝ }
+    ensures { λ r. ⌜ r ≡ spec.springs (now (w .entry)) k ⌝ }
 {
     let erp_strain = six(w, k + 113);
     let cfm_strain = six(w, k + 119);
@@ -155,6 +180,7 @@ fn springs(w: &[u32; 400], k: usize) -> Springs
 
 fn volume(w: &[u32; 400], k: usize) -> Volume
     requires { ⌜ k + 155 ≤ 400 ⌝ }
+    ensures { λ r. ⌜ r ≡ spec.volume (now (w .entry)) k ⌝ }
 {
     let b = six(w, k + 142);
     let z = six(w, k + 148);
@@ -171,6 +197,7 @@ fn volume(w: &[u32; 400], k: usize) -> Volume
 // The row that was read from word `from` on is now what stands from word k on.
 fn row_is(w: &[u32; 400], from: usize, k: usize, r: CorotationalRow, strained: bool) -> bool
     requires { ⌜ (from + 155 ≤ 400) × (k + 155 ≤ 400) ⌝ }
+    ensures { λ q. ⌜ q ≡ spec.rowIs (now (w .entry)) from k r strained ⌝ }
 {
     let inv_a = r.inv_a;
     elastic::kept(w, from, k)
@@ -184,6 +211,7 @@ fn row_is(w: &[u32; 400], from: usize, k: usize, r: CorotationalRow, strained: b
 
 fn springs_are(w: &[u32; 400], k: usize, s: Springs) -> bool
     requires { ⌜ k + 155 ≤ 400 ⌝ }
+    ensures { λ r. ⌜ r ≡ spec.springsAre (now (w .entry)) k s ⌝ }
 {
     let erp = s.erp_strain;
     let cfm = s.cfm_strain;
@@ -196,6 +224,7 @@ fn springs_are(w: &[u32; 400], k: usize, s: Springs) -> bool
 
 fn volume_is(w: &[u32; 400], k: usize, v: Volume) -> bool
     requires { ⌜ k + 155 ≤ 400 ⌝ }
+    ensures { λ r. ⌜ r ≡ spec.volumeIs (now (w .entry)) k v ⌝ }
 {
     let b = v.b;
     let z = v.z;
@@ -209,18 +238,23 @@ fn volume_is(w: &[u32; 400], k: usize, v: Volume) -> bool
 
 fn scene_is(w: &[u32; 400], from: usize, k: usize, s: Scene) -> bool
     requires { ⌜ (from + 155 ≤ 400) × (k + 170 ≤ 400) ⌝ }
+    ensures { λ r. ⌜ r ≡ spec.sceneIs (now (w .entry)) from k s ⌝ }
 {
     row_is(w, from, k, s.row, s.strained) & points::velocities_are(w, k + 155, s.seen)
 }
 
 // ---- the functions that give less than a scene
 
-fn update_is(w: &[u32; 400]) -> bool {
+fn update_is(w: &[u32; 400]) -> bool
+    ensures { λ r. ⌜ r ≡ spec.updateIs (now (w .entry)) ⌝ }
+{
     let s = scene_of(w, 0, 31);
     let row = corotational::update(s.row, points::positions(w, 0, s.seen));
     row_is(w, 31, 186, row, s.strained)
 }
 
-fn warmstart_is(w: &[u32; 400]) -> bool {
+fn warmstart_is(w: &[u32; 400]) -> bool
+    ensures { λ r. ⌜ r ≡ spec.warmstartIs (now (w .entry)) ⌝ }
+{
     points::velocities_are(w, 186, warmed(scene_of(w, 0, 31), 1.0).seen)
 }

@@ -1,4 +1,8 @@
 // The row functions of the crate `neo_hookean`. A row has 170 words.
+ghost use mathlib.Core.Path.{_≡_};
+ghost use Rattle.replay.specs.Tallies.{Through};
+ghost use Rattle.replay_rows.specs.OfNeoHookean as spec;
+ghost use Rattle.neo_hookean.specs.Row.{withImpulses};
 ghost use Prim.Native.Nat.{_+_, _≤_};
 use crate::Function;
 use crate::elastic;
@@ -28,7 +32,9 @@ pub(crate) enum NeoHookean {
 }
 
 // Each with the words of its records.
-pub(crate) fn all(t: Tally) -> Tally {
+pub(crate) fn all(t: Tally) -> Tally
+    ensures { λ r. ⌜ Through spec.files t r ⌝ }
+{
     let t = replay_file(t, b"neo_hookean_update.bin", Function::NeoHookean(NeoHookean::Update), 371);
     let t = replay_file(t, b"neo_hookean_warmstart.bin", Function::NeoHookean(NeoHookean::Warmstart), 216);
     let t = replay_file(t, b"neo_hookean_solve.bin", Function::NeoHookean(NeoHookean::Solve), 386);
@@ -38,7 +44,9 @@ pub(crate) fn all(t: Tally) -> Tally {
 }
 
 // Whether the function's answer to the record's first words is what stands after them.
-pub(crate) fn agrees(f: NeoHookean, w: &[u32; 400]) -> bool {
+pub(crate) fn agrees(f: NeoHookean, w: &[u32; 400]) -> bool
+    ensures { λ r. ⌜ r ≡ spec.ofNeoHookean f (now (w .entry)) ⌝ }
+{
     match f {
         NeoHookean::Update => update_is(w),
         NeoHookean::Warmstart => warmstart_is(w),
@@ -60,6 +68,7 @@ struct Scene {
 // The points from word p on, the row from word k on.
 fn scene_of(w: &[u32; 400], p: usize, k: usize) -> Scene
     requires { ⌜ (p + 31 ≤ 400) × (k + 170 ≤ 400) ⌝ }
+    ensures { λ r. ⌜ r ≡ spec.sceneOf (now (w .entry)) p k ⌝ }
 {
     let row = row(w, k);
     Scene {
@@ -69,13 +78,17 @@ fn scene_of(w: &[u32; 400], p: usize, k: usize) -> Scene
     }
 }
 
-fn with_impulses(r: NeoHookeanRow, i: Impulses) -> NeoHookeanRow {
+fn with_impulses(r: NeoHookeanRow, i: Impulses) -> NeoHookeanRow
+    ensures { λ q. ⌜ q ≡ withImpulses r i ⌝ }
+{
     let mut q = r;
     q.impulses = i;
     q
 }
 
-fn after(s: Scene, x: Solved) -> Scene {
+fn after(s: Scene, x: Solved) -> Scene
+    ensures { λ r. ⌜ r ≡ spec.after s x ⌝ }
+{
     let row = with_impulses(s.row, x.impulses);
     let seen = points::lost(s.seen, x.loss);
     Scene {
@@ -85,16 +98,22 @@ fn after(s: Scene, x: Solved) -> Scene {
     }
 }
 
-fn warmed(s: Scene, coeff: f32) -> Scene {
+fn warmed(s: Scene, coeff: f32) -> Scene
+    ensures { λ r. ⌜ r ≡ spec.warmed s coeff ⌝ }
+{
     after(s, neo_hookean::warmstart(s.row, coeff))
 }
 
-fn solved(s: Scene) -> Scene {
+fn solved(s: Scene) -> Scene
+    ensures { λ r. ⌜ r ≡ spec.solved s ⌝ }
+{
     after(s, neo_hookean::solve(s.row, points::velocities(s.seen)))
 }
 
 // Where bit 0 of the mode is set: the update and the flag.
-fn begun(s: Scene, w: &[u32; 400]) -> Scene {
+fn begun(s: Scene, w: &[u32; 400]) -> Scene
+    ensures { λ r. ⌜ r ≡ spec.begun s (now (w .entry)) ⌝ }
+{
     if w[0] % 2 == 0 {
         return s;
     }
@@ -108,7 +127,9 @@ fn begun(s: Scene, w: &[u32; 400]) -> Scene {
 }
 
 // And where bit 1 is: the warm start.
-fn main_step(w: &[u32; 400]) -> Scene {
+fn main_step(w: &[u32; 400]) -> Scene
+    ensures { λ r. ⌜ r ≡ spec.mainStep (now (w .entry)) ⌝ }
+{
     let s = begun(scene_of(w, 3, 34), w);
     if w[0] / 2 % 2 == 0 {
         return solved(s);
@@ -116,7 +137,9 @@ fn main_step(w: &[u32; 400]) -> Scene {
     solved(warmed(s, float(w, 1)))
 }
 
-fn resweep_step(w: &[u32; 400]) -> Scene {
+fn resweep_step(w: &[u32; 400]) -> Scene
+    ensures { λ r. ⌜ r ≡ spec.resweepStep (now (w .entry)) ⌝ }
+{
     let s = scene_of(w, 0, 31);
     if s.strained { solved(s) } else { s }
 }
@@ -125,6 +148,7 @@ fn resweep_step(w: &[u32; 400]) -> Scene {
 
 fn row(w: &[u32; 400], k: usize) -> NeoHookeanRow
     requires { ⌜ k + 170 ≤ 400 ⌝ }
+    ensures { λ r. ⌜ r ≡ spec.row (now (w .entry)) k ⌝ }
 {
     let inv_a = flat(w, k + 58);
     NeoHookeanRow {
@@ -139,6 +163,7 @@ fn row(w: &[u32; 400], k: usize) -> NeoHookeanRow
 
 fn material(w: &[u32; 400], k: usize) -> Material
     requires { ⌜ k + 170 ≤ 400 ⌝ }
+    ensures { λ r. ⌜ r ≡ spec.material (now (w .entry)) k ⌝ }
 {
     let damping = six(w, k + 116);
     Material {
@@ -151,6 +176,7 @@ fn material(w: &[u32; 400], k: usize) -> Material
 
 fn stiffness(w: &[u32; 400], k: usize) -> Stiffness
     requires { ⌜ k + 170 ≤ 400 ⌝ }
+    ensures { λ r. ⌜ r ≡ spec.stiffness (now (w .entry)) k ⌝ }
 {
     let stiffness_strain = six(w, k + 122);
     let m = flat(w, k + 128);
@@ -165,6 +191,7 @@ fn stiffness(w: &[u32; 400], k: usize) -> Stiffness
 // The row that was read from word `from` on is now what stands from word k on.
 fn row_is(w: &[u32; 400], from: usize, k: usize, r: NeoHookeanRow, strained: bool) -> bool
     requires { ⌜ (from + 170 ≤ 400) × (k + 170 ≤ 400) ⌝ }
+    ensures { λ q. ⌜ q ≡ spec.rowIs (now (w .entry)) from k r strained ⌝ }
 {
     let inv_a = r.inv_a;
     elastic::kept(w, from, k)
@@ -178,6 +205,7 @@ fn row_is(w: &[u32; 400], from: usize, k: usize, r: NeoHookeanRow, strained: boo
 
 fn material_is(w: &[u32; 400], k: usize, m: Material) -> bool
     requires { ⌜ k + 170 ≤ 400 ⌝ }
+    ensures { λ r. ⌜ r ≡ spec.materialIs (now (w .entry)) k m ⌝ }
 {
     let damping = m.damping;
     float_is(w, k + 113, m.dt)
@@ -188,6 +216,7 @@ fn material_is(w: &[u32; 400], k: usize, m: Material) -> bool
 
 fn stiffness_is(w: &[u32; 400], k: usize, s: Stiffness) -> bool
     requires { ⌜ k + 170 ≤ 400 ⌝ }
+    ensures { λ r. ⌜ r ≡ spec.stiffnessIs (now (w .entry)) k s ⌝ }
 {
     let strain = s.stiffness_strain;
     let m = s.m;
@@ -197,18 +226,23 @@ fn stiffness_is(w: &[u32; 400], k: usize, s: Stiffness) -> bool
 
 fn scene_is(w: &[u32; 400], from: usize, k: usize, s: Scene) -> bool
     requires { ⌜ (from + 170 ≤ 400) × (k + 185 ≤ 400) ⌝ }
+    ensures { λ r. ⌜ r ≡ spec.sceneIs (now (w .entry)) from k s ⌝ }
 {
     row_is(w, from, k, s.row, s.strained) & points::velocities_are(w, k + 170, s.seen)
 }
 
 // ---- the functions that give less than a scene
 
-fn update_is(w: &[u32; 400]) -> bool {
+fn update_is(w: &[u32; 400]) -> bool
+    ensures { λ r. ⌜ r ≡ spec.updateIs (now (w .entry)) ⌝ }
+{
     let s = scene_of(w, 0, 31);
     let row = neo_hookean::update(s.row, points::positions(w, 0, s.seen));
     row_is(w, 31, 201, row, s.strained)
 }
 
-fn warmstart_is(w: &[u32; 400]) -> bool {
+fn warmstart_is(w: &[u32; 400]) -> bool
+    ensures { λ r. ⌜ r ≡ spec.warmstartIs (now (w .entry)) ⌝ }
+{
     points::velocities_are(w, 201, warmed(scene_of(w, 0, 31), 1.0).seen)
 }

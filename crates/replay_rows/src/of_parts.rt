@@ -1,4 +1,7 @@
 // The functions that take no row: of the crates `gradients`, `energy` and `cell`.
+ghost use mathlib.Core.Path.{_≡_};
+ghost use Rattle.replay.specs.Tallies.{Through};
+ghost use Rattle.replay_rows.specs.OfParts as spec;
 ghost use Prim.Native.Nat.{_+_, _≤_};
 use crate::Function;
 use crate::replay_file;
@@ -29,7 +32,9 @@ pub(crate) enum Part {
 }
 
 // Each with the words of its records.
-pub(crate) fn all(t: Tally) -> Tally {
+pub(crate) fn all(t: Tally) -> Tally
+    ensures { λ r. ⌜ Through spec.files t r ⌝ }
+{
     let t = replay_file(t, b"dihedral_gradients.bin", Function::Part(Part::DihedralGradients), 26);
     let t = replay_file(t, b"neo_hookean_gradient.bin", Function::Part(Part::NeoHookeanGradient), 24);
     let t = replay_file(t, b"neo_hookean_hessian.bin", Function::Part(Part::NeoHookeanHessian), 48);
@@ -41,7 +46,9 @@ pub(crate) fn all(t: Tally) -> Tally {
 }
 
 // Whether the function's answer to the record's first words is what stands after them.
-pub(crate) fn agrees(f: Part, w: &[u32; 400]) -> bool {
+pub(crate) fn agrees(f: Part, w: &[u32; 400]) -> bool
+    ensures { λ r. ⌜ r ≡ spec.ofParts f (now (w .entry)) ⌝ }
+{
     match f {
         Part::DihedralGradients => gradients_are(w, 13, gradients::dihedral::dihedral_gradients(four(w, 0), float(w, 12))),
         Part::NeoHookeanGradient => energy_is(w, 8, hessian::gradient(float(w, 0), float(w, 1), &six(w, 2))),
@@ -56,12 +63,14 @@ pub(crate) fn agrees(f: Part, w: &[u32; 400]) -> bool {
 
 fn gradients_are(w: &[u32; 400], k: usize, g: Gradients) -> bool
     requires { ⌜ k + 13 ≤ 400 ⌝ }
+    ensures { λ r. ⌜ r ≡ spec.gradientsAre (now (w .entry)) k g ⌝ }
 {
     four_are(w, k, g.grad) & float_is(w, k + 12, g.error)
 }
 
 fn energy_is(w: &[u32; 400], k: usize, e: Energy) -> bool
     requires { ⌜ k + 16 ≤ 400 ⌝ }
+    ensures { λ r. ⌜ r ≡ spec.energyIs (now (w .entry)) k e ⌝ }
 {
     let grad = e.grad;
     mat3_is(w, k, e.s) & float_is(w, k + 9, e.kappa) & six_is(w, k + 10, &grad)

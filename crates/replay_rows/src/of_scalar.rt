@@ -1,4 +1,7 @@
 // The row functions of the crate `scalar`. A row's 46 words start with its colour, its flag, its type, its count and its ids.
+ghost use mathlib.Core.Path.{_≡_};
+ghost use Rattle.replay.specs.Tallies.{Through};
+ghost use Rattle.replay_rows.specs.OfScalar as spec;
 ghost use Prim.Native.Nat.{_+_, _≤_};
 use crate::Function;
 use crate::points::Seen;
@@ -26,7 +29,9 @@ pub(crate) enum Scalar {
 }
 
 // Each with the words of its records.
-pub(crate) fn all(t: Tally) -> Tally {
+pub(crate) fn all(t: Tally) -> Tally
+    ensures { λ r. ⌜ Through spec.files t r ⌝ }
+{
     let t = replay_file(t, b"scalar_compute_gradients.bin", Function::Scalar(Scalar::ComputeGradients), 93);
     let t = replay_file(t, b"scalar_update.bin", Function::Scalar(Scalar::Update), 123);
     let t = replay_file(t, b"scalar_warmstart.bin", Function::Scalar(Scalar::Warmstart), 92);
@@ -37,7 +42,9 @@ pub(crate) fn all(t: Tally) -> Tally {
 }
 
 // Whether the function's answer to the record's first words is what stands after them.
-pub(crate) fn agrees(f: Scalar, w: &[u32; 400]) -> bool {
+pub(crate) fn agrees(f: Scalar, w: &[u32; 400]) -> bool
+    ensures { λ r. ⌜ r ≡ spec.ofScalar f (now (w .entry)) ⌝ }
+{
     match f {
         Scalar::ComputeGradients => gradients_are(w),
         Scalar::Update => update_is(w),
@@ -60,6 +67,7 @@ struct Scene {
 // The points from word p on, the row from word k on.
 fn scene_of(w: &[u32; 400], p: usize, k: usize) -> Scene
     requires { ⌜ (p + 31 ≤ 400) × (k + 46 ≤ 400) ⌝ }
+    ensures { λ r. ⌜ r ≡ spec.sceneOf (now (w .entry)) p k ⌝ }
 {
     let row = row(w, k);
     let ids = counted(points::ids(w, k + 4), row.count);
@@ -71,7 +79,9 @@ fn scene_of(w: &[u32; 400], p: usize, k: usize) -> Scene
 }
 
 // A place past the row's count has the id 0xFFFFFFFF.
-fn counted(i: Ids, count: u32) -> Ids {
+fn counted(i: Ids, count: u32) -> Ids
+    ensures { λ r. ⌜ r ≡ spec.counted i count ⌝ }
+{
     Ids {
         a: counted_id(count, 0, i.a),
         b: counted_id(count, 1, i.b),
@@ -80,11 +90,15 @@ fn counted(i: Ids, count: u32) -> Ids {
     }
 }
 
-fn counted_id(count: u32, k: u32, id: u32) -> u32 {
+fn counted_id(count: u32, k: u32, id: u32) -> u32
+    ensures { λ r. ⌜ r ≡ spec.countedId count k id ⌝ }
+{
     if k < count { id } else { 4294967295 }
 }
 
-fn after(s: Scene, x: Solved) -> Scene {
+fn after(s: Scene, x: Solved) -> Scene
+    ensures { λ r. ⌜ r ≡ spec.after s x ⌝ }
+{
     let row = x.row;
     let seen = points::lost(s.seen, x.loss);
     Scene {
@@ -94,16 +108,22 @@ fn after(s: Scene, x: Solved) -> Scene {
     }
 }
 
-fn warmed(s: Scene, coeff: f32) -> Scene {
+fn warmed(s: Scene, coeff: f32) -> Scene
+    ensures { λ r. ⌜ r ≡ spec.warmed s coeff ⌝ }
+{
     after(s, scalar::warmstart(s.row, coeff))
 }
 
-fn solved(s: Scene) -> Scene {
+fn solved(s: Scene) -> Scene
+    ensures { λ r. ⌜ r ≡ spec.solved s ⌝ }
+{
     after(s, scalar::solve(s.row, points::velocities(s.seen)))
 }
 
 // Where bit 0 of the mode is set: the peak, the update and the flag.
-fn begun(s: Scene, w: &[u32; 400]) -> Scene {
+fn begun(s: Scene, w: &[u32; 400]) -> Scene
+    ensures { λ r. ⌜ r ≡ spec.begun s (now (w .entry)) ⌝ }
+{
     if w[0] % 2 == 0 {
         return s;
     }
@@ -117,7 +137,9 @@ fn begun(s: Scene, w: &[u32; 400]) -> Scene {
 }
 
 // And where bit 1 is: the warm start.
-fn main_step(w: &[u32; 400]) -> Scene {
+fn main_step(w: &[u32; 400]) -> Scene
+    ensures { λ r. ⌜ r ≡ spec.mainStep (now (w .entry)) ⌝ }
+{
     let s = begun(scene_of(w, 3, 34), w);
     if w[0] / 2 % 2 == 0 {
         return solved(s);
@@ -125,7 +147,9 @@ fn main_step(w: &[u32; 400]) -> Scene {
     solved(warmed(s, float(w, 1)))
 }
 
-fn resweep_step(w: &[u32; 400]) -> Scene {
+fn resweep_step(w: &[u32; 400]) -> Scene
+    ensures { λ r. ⌜ r ≡ spec.resweepStep (now (w .entry)) ⌝ }
+{
     let s = scene_of(w, 0, 31);
     if s.strained { solved(s) } else { s }
 }
@@ -134,6 +158,7 @@ fn resweep_step(w: &[u32; 400]) -> Scene {
 
 fn row(w: &[u32; 400], k: usize) -> SoftScalarConstraint
     requires { ⌜ k + 46 ≤ 400 ⌝ }
+    ensures { λ r. ⌜ r ≡ spec.row (now (w .entry)) k ⌝ }
 {
     SoftScalarConstraint {
         kind: w[k + 2],
@@ -141,26 +166,42 @@ fn row(w: &[u32; 400], k: usize) -> SoftScalarConstraint
         pos: four(w, k + 8),
         im: points::masses(w, k + 20),
         grad: four(w, k + 24),
-        spring: Spring {
-            rest: float(w, k + 36),
-            erp_inv_dt: float(w, k + 37),
-            cfm_coeff: float(w, k + 38),
-            lower: float(w, k + 44),
-            upper: float(w, k + 45),
-        },
-        response: Response {
-            inv_lhs: float(w, k + 39),
-            cfm_gain: float(w, k + 40),
-            rhs: float(w, k + 41),
-            impulse: float(w, k + 42),
-            peak_impulse: float(w, k + 43),
-        },
+        spring: spring(w, k + 36),
+        response: response(w, k + 39),
+    }
+}
+
+// The bounds stand after the response.
+fn spring(w: &[u32; 400], k: usize) -> Spring
+    requires { ⌜ k + 10 ≤ 400 ⌝ }
+    ensures { λ r. ⌜ r ≡ spec.spring (now (w .entry)) k ⌝ }
+{
+    Spring {
+        rest: float(w, k),
+        erp_inv_dt: float(w, k + 1),
+        cfm_coeff: float(w, k + 2),
+        lower: float(w, k + 8),
+        upper: float(w, k + 9),
+    }
+}
+
+fn response(w: &[u32; 400], k: usize) -> Response
+    requires { ⌜ k + 5 ≤ 400 ⌝ }
+    ensures { λ r. ⌜ r ≡ spec.response (now (w .entry)) k ⌝ }
+{
+    Response {
+        inv_lhs: float(w, k),
+        cfm_gain: float(w, k + 1),
+        rhs: float(w, k + 2),
+        impulse: float(w, k + 3),
+        peak_impulse: float(w, k + 4),
     }
 }
 
 // The row that was read from word `from` on is now what stands from word k on: its colour, type, count and ids are kept.
 fn row_is(w: &[u32; 400], from: usize, k: usize, r: SoftScalarConstraint, strained: bool) -> bool
     requires { ⌜ (from + 46 ≤ 400) × (k + 46 ≤ 400) ⌝ }
+    ensures { λ q. ⌜ q ≡ spec.rowIs (now (w .entry)) from k r strained ⌝ }
 {
     points::same_words(w, from, k, 1)
         & points::flag_is(w, k + 1, strained)
@@ -172,9 +213,9 @@ fn row_is(w: &[u32; 400], from: usize, k: usize, r: SoftScalarConstraint, strain
         & response_is(w, k + 39, r.response)
 }
 
-// The bounds stand after the response.
 fn spring_is(w: &[u32; 400], k: usize, p: Spring) -> bool
     requires { ⌜ k + 10 ≤ 400 ⌝ }
+    ensures { λ r. ⌜ r ≡ spec.springIs (now (w .entry)) k p ⌝ }
 {
     float_is(w, k, p.rest)
         & float_is(w, k + 1, p.erp_inv_dt)
@@ -185,6 +226,7 @@ fn spring_is(w: &[u32; 400], k: usize, p: Spring) -> bool
 
 fn response_is(w: &[u32; 400], k: usize, s: Response) -> bool
     requires { ⌜ k + 5 ≤ 400 ⌝ }
+    ensures { λ r. ⌜ r ≡ spec.responseIs (now (w .entry)) k s ⌝ }
 {
     float_is(w, k, s.inv_lhs)
         & float_is(w, k + 1, s.cfm_gain)
@@ -195,6 +237,7 @@ fn response_is(w: &[u32; 400], k: usize, s: Response) -> bool
 
 fn scene_is(w: &[u32; 400], from: usize, k: usize, s: Scene) -> bool
     requires { ⌜ (from + 46 ≤ 400) × (k + 61 ≤ 400) ⌝ }
+    ensures { λ r. ⌜ r ≡ spec.sceneIs (now (w .entry)) from k s ⌝ }
 {
     row_is(w, from, k, s.row, s.strained) & points::velocities_are(w, k + 46, s.seen)
 }
@@ -202,7 +245,9 @@ fn scene_is(w: &[u32; 400], from: usize, k: usize, s: Scene) -> bool
 // ---- the functions that give less than a scene
 
 // The row with its gradients anew, and the constraint's value.
-fn gradients_are(w: &[u32; 400]) -> bool {
+fn gradients_are(w: &[u32; 400]) -> bool
+    ensures { λ r. ⌜ r ≡ spec.gradientsAre (now (w .entry)) ⌝ }
+{
     let r = row(w, 0);
     let g = gradients::gradient::compute_gradients(r.kind, r.pos, r.grad, r.spring.rest);
     let grad = g.grad;
@@ -211,12 +256,16 @@ fn gradients_are(w: &[u32; 400]) -> bool {
     row_is(w, 0, 46, q, w[1] != 0) & float_is(w, 92, g.error)
 }
 
-fn update_is(w: &[u32; 400]) -> bool {
+fn update_is(w: &[u32; 400]) -> bool
+    ensures { λ r. ⌜ r ≡ spec.updateIs (now (w .entry)) ⌝ }
+{
     let s = scene_of(w, 0, 31);
     let row = scalar::update(s.row, points::positions(w, 0, s.seen));
     row_is(w, 31, 77, row, s.strained)
 }
 
-fn warmstart_is(w: &[u32; 400]) -> bool {
+fn warmstart_is(w: &[u32; 400]) -> bool
+    ensures { λ r. ⌜ r ≡ spec.warmstartIs (now (w .entry)) ⌝ }
+{
     points::velocities_are(w, 77, warmed(scene_of(w, 0, 31), 1.0).seen)
 }

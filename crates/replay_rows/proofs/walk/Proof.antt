@@ -1,18 +1,20 @@
--- `replay_rows::walk` meets its contract. Every count is at most the bytes passed. Assumes nothing.
+-- `replay_rows::walk` meets its contract. One record a turn. Assumes nothing.
 use borrow.Author.Needs.{needs}
-use Prim.Native.Nat.{_-_, _≤_}
+use Prim.Native.Nat.{_-_}
 use lib.ListN.{length}
+use Rattle.replay.specs.Tallies.{Walked, begins, again, ends}
+use Rattle.replay_rows.specs.Agrees.{agreed}
 use Rattle.replay_rows.proofs.walk.Statement.{statement}
 use Rattle.replay_rows.proofs.walk.Tie as tie
 
 abbrev Inv-loop : tie.InvT-loop
-Inv-loop s f size records₀ differ₀ at₀ records differ at = (at ≤ length s) × (records ≤ at) × (differ ≤ records)
+Inv-loop s f size records₀ differ₀ at₀ records differ at = Walked (agreed f) s size records differ at
 
 abbrev μ-loop : tie.MeasureT-loop
 μ-loop s f size records₀ differ₀ at₀ records differ at = length s - at
 
 loop-holds : tie.Need-loop-holds Inv-loop μ-loop
-loop-holds c = search needs
+loop-holds c = begins
 
 mul-loop : tie.Need-mul-loop Inv-loop μ-loop
 mul-loop c = search needs
@@ -42,10 +44,10 @@ loop-less : tie.Need-loop-less Inv-loop μ-loop
 loop-less c = search needs
 
 loop-again : tie.Need-loop-again Inv-loop μ-loop
-loop-again c = search needs
+loop-again c = again (c .before .before .before .before .loop .inv) (search needs) (search needs) (c .differs .ensures .1) (c .before .before .«record» .ensures) (c .differs .ensures .0)
 
 returns : tie.Need-returns Inv-loop μ-loop
-returns c = search needs
+returns c = ends (c .before .loop .inv) (search needs)
 
 pub walk-spec : {M : Type 1} → statement M
 walk-spec =

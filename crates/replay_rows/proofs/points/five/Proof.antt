@@ -1,19 +1,21 @@
 -- `replay_rows::points::five` meets its contract. Word i / 3 * 6 + i % 3 is at most 26. Assumes nothing.
 use borrow.Author.Needs.{needs}
-use Prim.Native.Nat.{_-_, _≤_}
-use mathlib.Core.Path.{_≡_}
-use lib.ListN.{length}
+use Prim.Native.Nat.{_+_, _-_, _*_, _/_, _%_, _≤_}
+use lib.Ieee.{nan}
+use Rattle.loops.specs.Fill.{Filled, filled-none, filled-more, filled-all}
+use Rattle.replay.specs.Words.{float}
+use Rattle.replay_rows.specs.Points.{five}
 use Rattle.replay_rows.proofs.points.five.Statement.{statement}
 use Rattle.replay_rows.proofs.points.five.Tie as tie
 
 abbrev Inv-loop : tie.InvT-loop
-Inv-loop w k v₀ i₀ v i = (i ≤ 15) × (length v ≡ 15)
+Inv-loop w k v₀ i₀ v i = Filled nan (λ i. float w (k + i / 3 * 6 + i % 3)) 15 v i × (i ≤ 15)
 
 abbrev μ-loop : tie.MeasureT-loop
 μ-loop w k v₀ i₀ v i = 15 - i
 
 loop-holds : tie.Need-loop-holds Inv-loop μ-loop
-loop-holds c = search needs
+loop-holds c = (filled-none (search needs), search needs)
 
 mul-float : tie.Need-mul-float Inv-loop μ-loop
 mul-float c = search needs
@@ -40,10 +42,11 @@ loop-less : tie.Need-loop-less Inv-loop μ-loop
 loop-less c = search needs
 
 loop-again : tie.Need-loop-again Inv-loop μ-loop
-loop-again c = search needs
+loop-again c = (filled-more (c .before .before .loop .inv .0) (search needs) (c .float .ensures), search needs)
 
 returns : tie.Need-returns Inv-loop μ-loop
-returns c = search needs
+unfolding five
+returns c = filled-all (c .before .loop .inv .0) (search needs)
 
 pub five-spec : {M : Type 1} → statement M
 five-spec =

@@ -1,17 +1,22 @@
 -- `replay_rows::points::five_are` meets its contract. Turn i compares float i. Assumes nothing.
 use borrow.Author.Needs.{needs}
-use Prim.Native.Nat.{_-_, _≤_}
+use Prim.Native.Nat.{_+_, _-_, _≤_}
+use mathlib.Core.Bool.{true, _&&_}
+use Rattle.loops.specs.Loops.{Ran, ran-none, ran-more, ran-all}
+use Rattle.real.specs.Float.{at}
+use Rattle.replay.specs.Words.{floatIs}
+use Rattle.replay_rows.specs.Points.{fiveAre}
 use Rattle.replay_rows.proofs.points.five_are.Statement.{statement}
 use Rattle.replay_rows.proofs.points.five_are.Tie as tie
 
 abbrev Inv-loop : tie.InvT-loop
-Inv-loop w k v same₀ i₀ same i = i ≤ 15
+Inv-loop w k v same₀ i₀ same i = Ran 15 (λ i b. b && floatIs w (k + i) (at v i)) true i same × (i ≤ 15)
 
 abbrev μ-loop : tie.MeasureT-loop
 μ-loop w k v same₀ i₀ same i = 15 - i
 
 loop-holds : tie.Need-loop-holds Inv-loop μ-loop
-loop-holds c = search needs
+loop-holds c = (ran-none, search needs)
 
 add-float-is : tie.Need-add-float-is Inv-loop μ-loop
 add-float-is c = search needs
@@ -32,10 +37,11 @@ loop-less : tie.Need-loop-less Inv-loop μ-loop
 loop-less c = search needs
 
 loop-again : tie.Need-loop-again Inv-loop μ-loop
-loop-again c = search needs
+loop-again c = (ran-more (c .before .before .before .loop .inv .0) (search needs) (cc), search needs)
 
 returns : tie.Need-returns Inv-loop μ-loop
-returns c = search needs
+unfolding fiveAre
+returns c = ran-all (c .before .loop .inv .0) (search needs)
 
 pub five-are-spec : {M : Type 1} → statement M
 five-are-spec =

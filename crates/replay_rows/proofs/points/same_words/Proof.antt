@@ -1,17 +1,22 @@
 -- `replay_rows::points::same_words` meets its contract. Turn i compares word i. Assumes nothing.
 use borrow.Author.Needs.{needs}
-use Prim.Native.Nat.{_-_, _≤_}
+use Prim.Native.Nat.{_+_, _-_, _≤_}
+use mathlib.Core.Bool.{true, _&&_}
+use lib.Dec.{eqb}
+use lib.ListN.{getD}
+use Rattle.loops.specs.Loops.{Ran, ran-none, ran-more, ran-all}
+use Rattle.replay_rows.specs.Points.{sameWords}
 use Rattle.replay_rows.proofs.points.same_words.Statement.{statement}
 use Rattle.replay_rows.proofs.points.same_words.Tie as tie
 
 abbrev Inv-loop : tie.InvT-loop
-Inv-loop w a b n same₀ i₀ same i = i ≤ n
+Inv-loop w a b n same₀ i₀ same i = Ran n (λ i c. c && eqb (getD w (a + i) 0) (getD w (b + i) 0)) true i same × (i ≤ n)
 
 abbrev μ-loop : tie.MeasureT-loop
 μ-loop w a b n same₀ i₀ same i = n - i
 
 loop-holds : tie.Need-loop-holds Inv-loop μ-loop
-loop-holds c = search needs
+loop-holds c = (ran-none, search needs)
 
 add-same : tie.Need-add-same Inv-loop μ-loop
 add-same c = search needs
@@ -38,10 +43,11 @@ loop-less : tie.Need-loop-less Inv-loop μ-loop
 loop-less c = search needs
 
 loop-again : tie.Need-loop-again Inv-loop μ-loop
-loop-again c = search needs
+loop-again c = (ran-more (c .before .before .before .loop .inv .0) (search needs) (cc), search needs)
 
 returns : tie.Need-returns Inv-loop μ-loop
-returns c = search needs
+unfolding sameWords
+returns c = ran-all (c .before .loop .inv .0) (search needs)
 
 pub same-words-spec : {M : Type 1} → statement M
 same-words-spec =

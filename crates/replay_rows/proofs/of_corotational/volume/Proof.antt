@@ -1,0 +1,63 @@
+-- `replay_rows::of_corotational::volume` meets its contract. The words are read one after another. Assumes nothing.
+use borrow.Author.Needs.{needs}
+use Rattle.replay_rows.specs.OfCorotational.{volume}
+use Rattle.replay_rows.proofs.of_corotational.volume.Statement.{statement}
+use Rattle.replay_rows.proofs.of_corotational.volume.Tie as tie
+
+add-six : tie.Need-add-six
+add-six c = search needs
+
+six-requires : tie.Need-six-requires
+six-requires c κs = search needs
+
+add-six-2 : tie.Need-add-six-2
+add-six-2 c = search needs
+
+six-requires-2 : tie.Need-six-requires-2
+six-requires-2 c κs = search needs
+
+add-four : tie.Need-add-four
+add-four c = search needs
+
+four-requires : tie.Need-four-requires
+four-requires c κs = search needs
+
+add-float : tie.Need-add-float
+add-float c = search needs
+
+float-requires : tie.Need-float-requires
+float-requires c κs = search needs
+
+add-float-2 : tie.Need-add-float-2
+add-float-2 c = search needs
+
+float-requires-2 : tie.Need-float-requires-2
+float-requires-2 c κs = search needs
+
+add-float-3 : tie.Need-add-float-3
+add-float-3 c = search needs
+
+float-requires-3 : tie.Need-float-requires-3
+float-requires-3 c κs = search needs
+
+returns : tie.Need-returns
+unfolding volume
+returns c = cc
+
+pub volume-spec : {M : Type 1} → statement M
+volume-spec =
+    tie.close
+    (tie.spec
+    add-six
+    six-requires
+    add-six-2
+    six-requires-2
+    add-four
+    four-requires
+    add-float
+    float-requires
+    add-float-2
+    float-requires-2
+    add-float-3
+    float-requires-3
+    returns)

@@ -1,0 +1,47 @@
+-- `replay_rows::of_neo_hookean::material_is` meets its contract. The value is compared part by part. Assumes nothing.
+use borrow.Author.Needs.{needs}
+use Rattle.replay_rows.specs.OfNeoHookean.{materialIs}
+use Rattle.replay_rows.proofs.of_neo_hookean.material_is.Statement.{statement}
+use Rattle.replay_rows.proofs.of_neo_hookean.material_is.Tie as tie
+
+add-float-is : tie.Need-add-float-is
+add-float-is c = search needs
+
+float-is-requires : tie.Need-float-is-requires
+float-is-requires c κs = search needs
+
+add-float-is-2 : tie.Need-add-float-is-2
+add-float-is-2 c = search needs
+
+float-is-requires-2 : tie.Need-float-is-requires-2
+float-is-requires-2 c κs = search needs
+
+add-float-is-3 : tie.Need-add-float-is-3
+add-float-is-3 c = search needs
+
+float-is-requires-3 : tie.Need-float-is-requires-3
+float-is-requires-3 c κs = search needs
+
+add-six-is : tie.Need-add-six-is
+add-six-is c = search needs
+
+six-is-requires : tie.Need-six-is-requires
+six-is-requires c κs = search needs
+
+returns : tie.Need-returns
+unfolding materialIs
+returns c = cc
+
+pub material-is-spec : {M : Type 1} → statement M
+material-is-spec =
+    tie.close
+    (tie.spec
+    add-float-is
+    float-is-requires
+    add-float-is-2
+    float-is-requires-2
+    add-float-is-3
+    float-is-requires-3
+    add-six-is
+    six-is-requires
+    returns)
