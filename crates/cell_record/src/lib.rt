@@ -1,7 +1,6 @@
 // What both elastic rows share on the bytes of a record: the pose anew, the impulses, and both put back.
-ghost use mathlib.Core.Bool.{cond};
 ghost use mathlib.Core.Path.{_≡_};
-ghost use Prim.Native.Nat.{_+_, _≤_};
+ghost use Prim.Native.Nat.{_≤_};
 ghost use lib.ListN.{length};
 ghost use Rattle.records.specs.Layout as at;
 ghost use Rattle.cell.specs.Cell as cell;
@@ -12,23 +11,9 @@ use cell::Impulses;
 use cell::Pose;
 use places::Holds;
 use records::layout;
+use stored::put_flag;
 use vector::Four;
 use vector::Mat3;
-
-// ---- flags
-
-fn flag_of(t: bool) -> u16
-    ensures { λ r. ⌜ r ≡ cond t 1 0 ⌝ }
-{
-    if t { 1 } else { 0 }
-}
-
-fn put_flag(b: &mut [u8], k: usize, t: bool)
-    requires { ⌜ k + 2 ≤ length (now b) ⌝ }
-    ensures { λ _. ⌜ now (b .exit) ≡ putFlag (now (b .entry)) k t ⌝ }
-{
-    bytes::put_u16(b, k, flag_of(t));
-}
 
 pub fn put_strained(b: &mut [u8], strain: &[f32; 6], least: f32)
     requires { ⌜ 450 ≤ length (now b) ⌝ }

@@ -19,7 +19,7 @@ use Rattle.stored.specs.Run.{updates, warms, warmCoefficient, leastStrain, swep
 use Rattle.stored.specs.Points.{mainStep, resweepStep}
 use Rattle.stored.specs.Local.{Sheet, main-local, resweep-local}
 use Rattle.demand.specs.Relisted.{Relisting}
-use Rattle.demand.specs.Demand3.{Ran, RunsAlike, Demand3}
+use Rattle.demand.specs.Demand3.{Left, RunsAlike, Demand3}
 use Rattle.demand.proofs.Laid.{heads-16, heads-32, sweptAs, swept-as, ran}
 use Rattle.demand.proofs.Relistings.{headB, points-same, rows-same, relisting-accepted}
 use Rattle.demand.proofs.Keys.{colour, to-accepted, to-relisted}
@@ -72,10 +72,10 @@ module _ (A B : List ℕ) (bs : List (List ℕ)) (σ τ : ℕ → ℕ) (ok : che
         ∙ sym (ap (λ (l : List (List ℕ)). row l (σ n)) (ranB .its-rows ∙ ap (λ x. x .0) sweptB));
   }
     where
-      ranA : Ran A
+      ranA : Left A
       ranA = ran A ok
 
-      ranB : Ran B
+      ranB : Left B
       ranB = ran B okB
 
 pub demand-3 : Demand3

@@ -22,7 +22,7 @@ use Rattle.relisting.specs.Steps.{run}
 use Rattle.stored.specs.Run.{updates, warms, warmCoefficient, leastStrain, lay, swept, runOf, leaves}
 use Rattle.stored.specs.Points.{mainStep, resweepStep}
 use Rattle.stored.specs.Sizes.{Same, alike-length, same-length, main-steady, resweep-steady, run-rows, run-points}
-use Rattle.demand.specs.Demand3.{Ran}
+use Rattle.demand.specs.Demand3.{Left}
 
 -- ---- the numbers of a head
 
@@ -127,7 +127,7 @@ module _ (A : List ℕ) (w : Whole A) where
   ran-rows = (λ i. records (many-rows i) (runOf A) (ran-at i)) ∙ lay-rows (head A) (swept A) long fit-points fit-rows
 
 -- THE PARTS OF WHAT A RUN LEAVES
-pub ran : (A : List ℕ) → checkOf A ≡ accepted → Ran A
+pub ran : (A : List ℕ) → checkOf A ≡ accepted → Left A
 ran A ok = record {
   bytes = e ∙ bytes ∙ λ i. head (sym e i) ++ (flatten (points (sym e i)) ++ flatten (rows (sym e i)));
   own-head = ap head e ∙ ran-head A w;

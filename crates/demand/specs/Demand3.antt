@@ -13,7 +13,7 @@ use Rattle.stored.specs.Sizes.{Same}
 use Rattle.demand.specs.Relisted.{Relisting}
 
 -- WHAT A RUN LEAVES OF AN ACCEPTED FRAME: its head, and the points and rows that the sweeps leave, and nothing else; each record as long as it was and of its kind
-pub record Ran (A : List ℕ) : Type 0 where
+pub record Left (A : List ℕ) : Type 0 where
   pub bytes : leaves A ≡ head (leaves A) ++ (flatten (points (leaves A)) ++ flatten (rows (leaves A)))
   pub own-head : head (leaves A) ≡ head A
   pub its-points : points (leaves A) ≡ swept A .1

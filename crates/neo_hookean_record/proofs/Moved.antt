@@ -45,7 +45,7 @@ module _ (least : Float) (held : Holds) (b : List ℕ) where
 
   by-test : (fresh : Bool) → isFresh (pose .strain) (floatsAt 6 b at.neoStiffnessStrain) ≡ fresh
       → putNeoHookean (update (neoHookeanOf b) held) b ≡ putFloats 6 (putMoved pose e grown b) at.neoDtGrad grown
-  unfolding putNeoHookean update updateBlock renewed neoHookeanOf cellOf materialOf stiffnessOf putRenewed putMoved putAnew blockAnew dtGradAnew energyAnew
+  unfolding putNeoHookean update updateBlock renewed neoHookeanOf cellOf materialOf stiffnessOf putRenewed putMoved blockAnew dtGradAnew energyAnew
   by-test true h = rw h refl
   by-test false h = rw h refl
 

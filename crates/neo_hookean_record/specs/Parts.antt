@@ -11,9 +11,9 @@ use Rattle.energy.specs.Hessian.{gradient}
 use Rattle.neo_hookean.specs.NeoHookean.{isFresh, renewed}
 use Rattle.energy.specs.declared.Energy.{Energy}
 use Rattle.neo_hookean.specs.declared.Block.{Block}
-use Rattle.floats.specs.Fields.{fourAt, massesAt, floatsAt, putFloats}
+use Rattle.floats.specs.Fields.{fourAt, massesAt, floatsAt}
 use Rattle.stored.specs.Read.{materialOf}
-use Rattle.stored.specs.Put.{putPose}
+use Rattle.stored.specs.Put.{putPose, putRenewed}
 
 unfoldable pub energyAnew : List Float → List ℕ → Energy
 energyAnew strain b = gradient (f32At b at.neoMu) (f32At b at.neoLambda) strain
@@ -25,9 +25,9 @@ dtGradAnew e b = scale6 (e .grad) (f32At b at.neoDt)
 unfoldable pub blockAnew : Energy → List Float → List Float → List ℕ → Block
 blockAnew e strain dtGrad b = renewed (fourAt b at.elasticCoeffs) (massesAt b at.rowIm) (materialOf b) e strain dtGrad
 
--- the stiffness, its strain and the block's inverse
-unfoldable pub putAnew : Block → List ℕ → List ℕ
-putAnew k b = putFloats 36 (putFloats 36 (putFloats 6 b at.neoStiffnessStrain (k .stiffness .«stiffness_strain»)) at.neoM (k .stiffness .m)) at.elasticInvA (k .«inv_a»)
+-- it put into the record
+abbrev pub putAnew : Block → List ℕ → List ℕ
+putAnew k b = putRenewed (k .stiffness) (k .«inv_a») b
 
 -- the pose, and the block where it is renewed
 unfoldable pub putMoved : Pose → Energy → List Float → List ℕ → List ℕ

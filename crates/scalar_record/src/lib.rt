@@ -1,17 +1,15 @@
-// One scalar row's update, warm start and solve on the bytes of its record, in place. Only fields that the Rust assigns are written. An update writes all of `pos`
-// and `grad`: a position that is not fetched, and a gradient that a distance row does not assign, as it was read.
-ghost use mathlib.Core.Bool.{cond};
+// One scalar row's update, warm start and solve on the bytes of its record, in place. What is written are the fields that the Rust
+// assigns; an update writes the rest of `pos` and `grad` with them, as it was read: a position that is not fetched, a gradient that a distance row does not assign.
 ghost use mathlib.Core.Path.{_≡_};
-ghost use Prim.Native.Nat.{ℕ, _+_, _≤_};
+ghost use Prim.Native.Nat.{_≤_};
 ghost use lib.ListN.{length};
 ghost use Rattle.scalar.specs.Row as s;
 ghost use Rattle.stored.specs.Read.{springAt, responseAt, scalarOf};
-ghost use Rattle.stored.specs.Put.{putFlag, putResponse, putScalar};
+ghost use Rattle.stored.specs.Put.{putResponse, putScalar};
 ghost use Rattle.stored.specs.Phases.{updateScalar, warmScalar, solveScalar};
 use bytes::get_f32;
 use bytes::get_u16;
 use bytes::put_f32;
-use bytes::put_u16;
 use floats::four_at;
 use floats::masses_at;
 use floats::put_four;
@@ -20,6 +18,7 @@ use records::layout;
 use scalar::Response;
 use scalar::SoftScalarConstraint;
 use scalar::Spring;
+use stored::put_flag;
 use vector::Four;
 
 // ---- read
@@ -90,19 +89,6 @@ fn put_scalar(b: &mut [u8], r: SoftScalarConstraint)
     put_four(b, layout::ROW_POS, r.pos);
     put_four(b, layout::SCALAR_GRAD, r.grad);
     put_response(b, r.response);
-}
-
-fn flag(t: bool) -> u16
-    ensures { λ r. ⌜ r ≡ cond t 1 0 ⌝ }
-{
-    if t { 1 } else { 0 }
-}
-
-fn put_flag(b: &mut [u8], k: usize, t: bool)
-    requires { ⌜ k + 2 ≤ length (now b) ⌝ }
-    ensures { λ _. ⌜ now (b .exit) ≡ putFlag (now (b .entry)) k t ⌝ }
-{
-    put_u16(b, k, flag(t));
 }
 
 // ---- the phases

@@ -18,6 +18,7 @@ use Rattle.cell.specs.declared.Pose.{Pose}
 use Rattle.cell.specs.declared.Impulses.{Impulses}
 use Rattle.corotational.specs.declared.Volume.{Volume}
 use Rattle.corotational.specs.declared.CorotationalRow.{CorotationalRow}
+use Rattle.neo_hookean.specs.declared.Stiffness.{Stiffness}
 use Rattle.neo_hookean.specs.declared.NeoHookeanRow.{NeoHookeanRow}
 use Rattle.records.specs.Layout as at
 use Rattle.rows.specs.Row.{Row, Key, keyOf, Constraint, scalar, corotational, neoHookean}
@@ -83,18 +84,18 @@ volume-kept v b k p =
     ∙ f32-kept b1 at.coroCfmGainVol (v .«cfm_gain_vol») (high 558 4 (omega arith)) k p
     ∙ four-kept b at.coroGradVol (v .«grad_vol») (high 510 48 (omega arith)) k p
 
-renewed-kept : (r : NeoHookeanRow) (b : List ℕ) → Kept (putRenewed r b) b
+renewed-kept : (s : Stiffness) (invA : List Float) (b : List ℕ) → Kept (putRenewed s invA b) b
 unfolding putRenewed
-renewed-kept r b k p =
-    let b1 : List ℕ = putFloats 6 b at.neoStiffnessStrain (r .stiffness .«stiffness_strain») in
-    let b2 : List ℕ = putFloats 36 b1 at.neoM (r .stiffness .m) in
-    floats-kept 36 b2 at.elasticInvA (r .«inv_a») (high 230 144 (omega arith)) k p
-    ∙ floats-kept 36 b1 at.neoM (r .stiffness .m) (high 510 144 (omega arith)) k p
-    ∙ floats-kept 6 b at.neoStiffnessStrain (r .stiffness .«stiffness_strain») (high 486 24 (omega arith)) k p
+renewed-kept s invA b k p =
+    let b1 : List ℕ = putFloats 6 b at.neoStiffnessStrain (s .«stiffness_strain») in
+    let b2 : List ℕ = putFloats 36 b1 at.neoM (s .m) in
+    floats-kept 36 b2 at.elasticInvA invA (high 230 144 (omega arith)) k p
+    ∙ floats-kept 36 b1 at.neoM (s .m) (high 510 144 (omega arith)) k p
+    ∙ floats-kept 6 b at.neoStiffnessStrain (s .«stiffness_strain») (high 486 24 (omega arith)) k p
 
-block-kept : (r : NeoHookeanRow) (c : List ℕ) (t : Bool) → Kept (cond t c (putRenewed r c)) c
+block-kept : (r : NeoHookeanRow) (c : List ℕ) (t : Bool) → Kept (cond t c (putRenewed (r .stiffness) (r .«inv_a») c)) c
 block-kept r c true k p = refl
-block-kept r c false k p = renewed-kept r c k p
+block-kept r c false k p = renewed-kept (r .stiffness) (r .«inv_a») c k p
 
 neo-kept : (r : NeoHookeanRow) (b : List ℕ) → Kept (putNeoHookean r b) b
 unfolding putNeoHookean

@@ -48,13 +48,12 @@ unfoldable pub putCorotational : CorotationalRow → List ℕ → List ℕ
 putCorotational r b = putVolume (r .volume) (putPose (r .pose) b)
 
 -- the stiffness and the block's inverse, where they were renewed
-unfoldable pub putRenewed : NeoHookeanRow → List ℕ → List ℕ
-putRenewed r b =
-    putFloats 36 (putFloats 36 (putFloats 6 b at.neoStiffnessStrain (r .stiffness .«stiffness_strain»)) at.neoM (r .stiffness .m)) at.elasticInvA (r .«inv_a»)
+unfoldable pub putRenewed : Stiffness → List Float → List ℕ → List ℕ
+putRenewed s invA b = putFloats 36 (putFloats 36 (putFloats 6 b at.neoStiffnessStrain (s .«stiffness_strain»)) at.neoM (s .m)) at.elasticInvA invA
 
 -- b is the record as it was: it says at which strain the stiffness was computed
 abbrev pub putBlock : NeoHookeanRow → List ℕ → List ℕ → List ℕ
-putBlock r b c = cond (isFresh (r .pose .strain) (floatsAt 6 b at.neoStiffnessStrain)) c (putRenewed r c)
+putBlock r b c = cond (isFresh (r .pose .strain) (floatsAt 6 b at.neoStiffnessStrain)) c (putRenewed (r .stiffness) (r .«inv_a») c)
 
 unfoldable pub putNeoHookean : NeoHookeanRow → List ℕ → List ℕ
 putNeoHookean r b = putFloats 6 (putBlock r b (putPose (r .pose) b)) at.neoDtGrad (r .stiffness .«dt_grad»)

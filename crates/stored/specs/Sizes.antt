@@ -20,6 +20,7 @@ use Rattle.scalar.specs.declared.SoftScalarConstraint.{SoftScalarConstraint}
 use Rattle.cell.specs.declared.Pose.{Pose}
 use Rattle.cell.specs.declared.Impulses.{Impulses}
 use Rattle.corotational.specs.declared.Volume.{Volume}
+use Rattle.neo_hookean.specs.declared.Stiffness.{Stiffness}
 use Rattle.neo_hookean.specs.declared.NeoHookeanRow.{NeoHookeanRow}
 use Rattle.records.specs.Layout as at
 use Rattle.rows.specs.Row.{Row, keyOf, Constraint, scalar, corotational, neoHookean}
@@ -135,13 +136,13 @@ volume-size v b =
     ∙ length-putF32 b1 at.coroCfmGainVol (v .«cfm_gain_vol»)
     ∙ length-putFour b at.coroGradVol (v .«grad_vol»)
 
-renewed-size : (r : NeoHookeanRow) (b : List ℕ) → length (putRenewed r b) ≡ length b
+renewed-size : (s : Stiffness) (invA : List Float) (b : List ℕ) → length (putRenewed s invA b) ≡ length b
 unfolding putRenewed
-renewed-size r b = simp (length-putFloats 36, length-putFloats 6)
+renewed-size s invA b = simp (length-putFloats 36, length-putFloats 6)
 
-block-size : (r : NeoHookeanRow) (c : List ℕ) (t : Bool) → length (cond t c (putRenewed r c)) ≡ length c
+block-size : (r : NeoHookeanRow) (c : List ℕ) (t : Bool) → length (cond t c (putRenewed (r .stiffness) (r .«inv_a») c)) ≡ length c
 block-size r c true = refl
-block-size r c false = renewed-size r c
+block-size r c false = renewed-size (r .stiffness) (r .«inv_a») c
 
 neo-size : (r : NeoHookeanRow) (b : List ℕ) → length (putNeoHookean r b) ≡ length b
 unfolding putNeoHookean

@@ -23,6 +23,7 @@ use Rattle.corotational.specs.Row as c
 use Rattle.corotational.specs.declared.Volume.{Volume}
 use Rattle.corotational.specs.declared.CorotationalRow.{CorotationalRow}
 use Rattle.neo_hookean.specs.Row as n
+use Rattle.neo_hookean.specs.declared.Stiffness.{Stiffness}
 use Rattle.neo_hookean.specs.declared.NeoHookeanRow.{NeoHookeanRow}
 use Rattle.records.specs.declared.Due.the-variants.{Row}
 use Rattle.records.specs.Layout as at
@@ -124,21 +125,21 @@ module _ (k : ℕ) where
           ∙ volume-stays (r .volume) (putPose (r .pose) b) (x .1)
           ∙ pose-puts (r .pose) refl (x .0)
 
-      renewed-stays : (r : NeoHookeanRow) (d : List ℕ) → Outside k (floats at.neoStiffnessStrain 6 and floats at.neoM 36 and floats at.elasticInvA 36)
-          → getD (putRenewed r d) k 0 ≡ getD d k 0
+      renewed-stays : (s : Stiffness) (invA : List Float) (d : List ℕ) → Outside k (floats at.neoStiffnessStrain 6 and floats at.neoM 36 and floats at.elasticInvA 36)
+          → getD (putRenewed s invA d) k 0 ≡ getD d k 0
       unfolding putRenewed
-      renewed-stays r d o =
-          let b1 : List ℕ = putFloats 6 d at.neoStiffnessStrain (r .stiffness .«stiffness_strain») in
-          let b2 : List ℕ = putFloats 36 b1 at.neoM (r .stiffness .m) in
-          floats-beside k 36 b2 at.elasticInvA (r .«inv_a») (o .1 .1 .0)
-          ∙ floats-beside k 36 b1 at.neoM (r .stiffness .m) (o .1 .0)
-          ∙ floats-beside k 6 d at.neoStiffnessStrain (r .stiffness .«stiffness_strain») (o .0)
+      renewed-stays s invA d o =
+          let b1 : List ℕ = putFloats 6 d at.neoStiffnessStrain (s .«stiffness_strain») in
+          let b2 : List ℕ = putFloats 36 b1 at.neoM (s .m) in
+          floats-beside k 36 b2 at.elasticInvA invA (o .1 .1 .0)
+          ∙ floats-beside k 36 b1 at.neoM (s .m) (o .1 .0)
+          ∙ floats-beside k 6 d at.neoStiffnessStrain (s .«stiffness_strain») (o .0)
 
       block-stays : (r : NeoHookeanRow) (d : List ℕ) (fresh : Bool)
           → Outside k (when (not fresh) (floats at.neoStiffnessStrain 6 and floats at.neoM 36 and floats at.elasticInvA 36))
-          → getD (cond fresh d (putRenewed r d)) k 0 ≡ getD d k 0
+          → getD (cond fresh d (putRenewed (r .stiffness) (r .«inv_a») d)) k 0 ≡ getD d k 0
       block-stays r d true o = refl
-      block-stays r d false o = renewed-stays r d o
+      block-stays r d false o = renewed-stays (r .stiffness) (r .«inv_a») d o
 
       neo-stays : (t : Bool) → Outside k (poseUpdate held and blockUpdate (isStillFresh held b))
           → getD (putFlag (putNeoHookean (n.update (neoHookeanOf b) held) b) at.rowStrained t) k 0 ≡ getD b k 0

@@ -1,6 +1,6 @@
 -- `neo_hookean_record::put_renewed` meets its contract. One put after another. Assumes nothing.
 use borrow.Author.Needs.{needs}
-use Rattle.neo_hookean_record.specs.Parts.{putAnew}
+use Rattle.stored.specs.Put.{putRenewed}
 use Rattle.neo_hookean_record.proofs.put_renewed.Statement.{statement}
 use Rattle.neo_hookean_record.proofs.put_renewed.Tie as tie
 
@@ -17,7 +17,7 @@ same-length : tie.Need-same-length
 same-length c = search needs
 
 returns : tie.Need-returns
-unfolding putAnew
+unfolding putRenewed
 returns c = cc
 
 pub put-renewed-spec : {M : Type 1} → statement M

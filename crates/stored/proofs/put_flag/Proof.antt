@@ -1,7 +1,7 @@
--- `scalar_record::put_flag` meets its contract. Its calls are the definition's. Assumes nothing.
+-- `stored::put_flag` meets its contract. The flag is the number that is put. Assumes nothing.
 use borrow.Author.Needs.{needs}
-use Rattle.scalar_record.proofs.put_flag.Statement.{statement}
-use Rattle.scalar_record.proofs.put_flag.Tie as tie
+use Rattle.stored.proofs.put_flag.Statement.{statement}
+use Rattle.stored.proofs.put_flag.Tie as tie
 
 flag-requires : tie.Need-flag-requires
 flag-requires c κs = search needs
