@@ -2,9 +2,9 @@
 
 use super::accepted::Frame;
 use crate::dynamics::solver::soft_element_constraint::{SoftElasticConstraint, StrainMatrix};
-use crate::inputs::{inverse, worked_distance};
+use crate::inputs::{SOFT, inverse, soft_corotational, soft_neo_hookean, worked_distance};
 use crate::layout::{COROTATIONAL, HEAD, NEO_HOOKEAN, OVERFLOW, POINT, SCALAR};
-use crate::rows::{Corotational, ElasticRow, NeoHookean, Point, ScalarRow};
+use crate::rows::{ElasticRow, Point, ScalarRow};
 use crate::support::na::SVector;
 use crate::support::real::Real;
 use crate::support::vector::{Matrix, Rotation, Vector};
@@ -178,11 +178,11 @@ pub fn sheet(asked: &Sheet) -> Frame {
 fn push(frame: &mut Frame, grid: &Grid, colour: u32, element: Element, ids: [u32; 4]) {
     match element {
         Element::Corotational => {
-            let words = words_of(&cell(grid, colour, ids, 1, corotational()));
+            let words = words_of(&cell(grid, colour, ids, 1, soft_corotational()));
             frame.push_words(&COROTATIONAL, &words);
         }
         Element::NeoHookean => {
-            let words = words_of(&cell(grid, colour, ids, 0, neo_hookean()));
+            let words = words_of(&cell(grid, colour, ids, 0, soft_neo_hookean()));
             frame.push_words(&NEO_HOOKEAN, &words);
         }
         _ => {
@@ -219,9 +219,6 @@ fn edges(x: [Vector; 4]) -> Matrix {
     Matrix::from_cols(x[1] - x[0], x[2] - x[0], x[3] - x[0])
 }
 
-/// How soft a cell's strain rows are.
-const SOFT: Real = 0.05;
-
 fn cell<M>(grid: &Grid, colour: u32, ids: [u32; 4], spare: u32, model: M) -> ElasticRow<M> {
     let x = ids.map(|id| grid.rest(id));
     let inv_rest_matrix = inverse(edges(x));
@@ -247,34 +244,5 @@ fn cell<M>(grid: &Grid, colour: u32, ids: [u32; 4], spare: u32, model: M) -> Ela
         strain_impulse: SVector([0.001; 6]),
         vol_impulse: if spare == 0 { 0.0 } else { 0.001 },
         model,
-    }
-}
-
-fn corotational() -> Corotational {
-    Corotational {
-        erp_strain: SVector([30.0; 6]),
-        cfm_strain: SVector([SOFT; 6]),
-        erp_vol: 30.0,
-        cfm_coeff_vol: SOFT,
-        vol_cap: 0.5,
-        grad_vol: [Vector::ZERO; 4],
-        cfm_gain_vol: 0.0,
-        rhs_vol: 0.0,
-        b: SVector::zeros(),
-        z: SVector::zeros(),
-        inv_s: 0.0,
-    }
-}
-
-/// Its block was never made.
-fn neo_hookean() -> NeoHookean {
-    NeoHookean {
-        dt: 0.004,
-        mu: 1000.0,
-        lambda: 2000.0,
-        damping: SVector([1.0; 6]),
-        stiffness_strain: SVector([Real::MAX; 6]),
-        m: StrainMatrix::zeros(),
-        dt_grad: SVector::zeros(),
     }
 }

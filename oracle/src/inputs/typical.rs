@@ -2,7 +2,7 @@
 //! near its end.
 
 use super::arithmetic::{near_rotation, stretched, unit_rotation};
-use super::elastic::{corner, inverse, six};
+use super::elastic::{corner, inverse};
 use super::scalar::{unit_vector, worked_distance};
 use crate::dynamics::solver::soft_element_constraint::{SoftElasticConstraint, StrainMatrix};
 use crate::random::Random;
@@ -69,8 +69,8 @@ pub fn typical_scalar(random: &mut Random, kind: u32) -> Typical<ScalarRow> {
     typical(near(random, places, 0.1), row)
 }
 
-/// A cell turned and stretched by a tenth, the start of its rotation near, and the inverse of its block, softened by `soft`.
-fn elastic<M>(random: &mut Random, soft: Real, model: M) -> (Points, ElasticRow<M>) {
+/// A cell turned and stretched by a tenth, the start of its rotation near, and the inverse of its block, softened.
+fn elastic<M>(random: &mut Random, model: M) -> (Points, ElasticRow<M>) {
     let rest = Matrix::from_cols(
         Vector::X + unit_vector(random) * 0.2,
         Vector::Y + unit_vector(random) * 0.2,
@@ -85,7 +85,7 @@ fn elastic<M>(random: &mut Random, soft: Real, model: M) -> (Points, ElasticRow<
     let coeffs = SoftElasticConstraint::coefficients(&inv_rest_matrix);
     let im = [1.0; 4];
     let block = SoftElasticConstraint::strain_block(&coeffs, &im)
-        + StrainMatrix::from_diagonal(&SVector([soft; 6]));
+        + StrainMatrix::from_diagonal(&SVector([SOFT; 6]));
     let row = ElasticRow {
         colour: 0,
         strained: false,
@@ -108,13 +108,15 @@ fn elastic<M>(random: &mut Random, soft: Real, model: M) -> (Points, ElasticRow<
     (points, row)
 }
 
-pub fn typical_corotational(random: &mut Random) -> Typical<CorotationalRow> {
-    let soft = 0.05;
-    let model = Corotational {
+/// How soft a cell's strain rows are.
+pub const SOFT: Real = 0.05;
+
+pub fn soft_corotational() -> Corotational {
+    Corotational {
         erp_strain: SVector([30.0; 6]),
-        cfm_strain: SVector([soft; 6]),
+        cfm_strain: SVector([SOFT; 6]),
         erp_vol: 30.0,
-        cfm_coeff_vol: soft,
+        cfm_coeff_vol: SOFT,
         vol_cap: 0.5,
         grad_vol: [Vector::ZERO; 4],
         cfm_gain_vol: 0.0,
@@ -122,23 +124,30 @@ pub fn typical_corotational(random: &mut Random) -> Typical<CorotationalRow> {
         b: SVector::zeros(),
         z: SVector::zeros(),
         inv_s: 0.0,
-    };
-    let (points, row) = elastic(random, soft, model);
+    }
+}
+
+/// Its block was never made.
+pub fn soft_neo_hookean() -> NeoHookean {
+    NeoHookean {
+        dt: 0.004,
+        mu: 1000.0,
+        lambda: 2000.0,
+        damping: SVector([1.0; 6]),
+        stiffness_strain: SVector([Real::MAX; 6]),
+        m: StrainMatrix::zeros(),
+        dt_grad: SVector::zeros(),
+    }
+}
+
+pub fn typical_corotational(random: &mut Random) -> Typical<CorotationalRow> {
+    let (points, row) = elastic(random, soft_corotational());
     typical(points, row)
 }
 
 /// A row whose update keeps its block, or renews it.
 pub fn typical_neo_hookean(random: &mut Random, kept: bool) -> Typical<NeoHookeanRow> {
-    let model = NeoHookean {
-        dt: 0.004,
-        mu: 1000.0,
-        lambda: 2000.0,
-        damping: six(|_| 1.0),
-        stiffness_strain: SVector([Real::MAX; 6]),
-        m: StrainMatrix::zeros(),
-        dt_grad: SVector::zeros(),
-    };
-    let (points, row) = elastic(random, 0.05, model);
+    let (points, row) = elastic(random, soft_neo_hookean());
     let renewed = typical(points, NeoHookeanRow { spare: 0, ..row });
     if !kept {
         return renewed;
