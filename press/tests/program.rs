@@ -122,28 +122,12 @@ fn a_link_stays_a_link() {
 fn a_refused_frame_writes_nothing() {
     let folder = folder("refused");
     let out = folder.join("out");
-    assert_eq!(
-        ended(press(&[
-            "run",
-            text(&sample("refused.frame")),
-            "-o",
-            text(&out)
-        ]))
-        .0,
-        1
-    );
+    let refused = sample("refused.frame");
+    let run = || ended(press(&["run", text(&refused), "-o", text(&out)])).0;
+    assert_eq!(run(), 1);
     assert!(names(&folder).is_empty());
     fs::write(&out, "old").expect("a file");
-    assert_eq!(
-        ended(press(&[
-            "run",
-            text(&sample("refused.frame")),
-            "-o",
-            text(&out)
-        ]))
-        .0,
-        1
-    );
+    assert_eq!(run(), 1);
     assert_eq!(fs::read(&out).expect("it is there"), b"old");
 }
 
