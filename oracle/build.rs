@@ -184,7 +184,7 @@ fn main() {
     if has("RATTLE") {
         libraries.extend(["arith_ffi", "rows_ffi"]);
     }
-    if has("RATTLE") || has("RUN") {
+    if has("RUN") {
         libraries.push("run");
     }
     link(&package, &libraries);

@@ -1,4 +1,6 @@
-//! `check` of the static library `frame` and `run` of the library `run`, as any program calls them.
+//! `check` and `run` of the static library `run`, as any program calls them.
+
+use std::hint::black_box;
 
 /// What both return.
 #[repr(C)]
@@ -27,4 +29,32 @@ pub fn run(frame: &mut [u8]) -> (u32, u64) {
     // SAFETY: as above, and the slice is lent to be altered.
     let answer = unsafe { exported_run(frame.as_mut_ptr(), frame.len()) };
     (answer.number, answer.place)
+}
+
+/// What lies on both sides of a frame while the library has it.
+const AROUND: [u8; 64] = [0xA5; 64];
+
+/// Memory in which frames are lent to the library, each at the next alignment.
+#[derive(Default)]
+pub struct Lent {
+    held: Vec<u8>,
+    times: usize,
+}
+
+impl Lent {
+    /// Calls with a copy of the frame. Gives the answer, the copy as it was left, and whether the bytes around it stayed.
+    pub fn call<A>(&mut self, frame: &[u8], call: impl FnOnce(&mut [u8]) -> A) -> (A, &[u8], bool) {
+        let held = &mut self.held;
+        held.clear();
+        held.extend(&AROUND[self.times % 8..]);
+        self.times += 1;
+        let start = held.len();
+        held.extend(frame);
+        held.extend(&AROUND);
+        let answer = call(black_box(&mut held[start..start + frame.len()]));
+        let (before, rest) = black_box(held).split_at(start);
+        let (left, after) = rest.split_at(frame.len());
+        let stayed = before.iter().chain(after).all(|&byte| byte == AROUND[0]);
+        (answer, left, stayed)
+    }
 }

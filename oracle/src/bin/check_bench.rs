@@ -1,10 +1,10 @@
 //! Times the Rattle `check` on accepted frames with as many points as rows, from 64 rows to 4,096, beside a memory copy of the same
 //! bytes, in one run: the shortest time of several.
 
+use oracle::exported;
 use oracle::frames::Frame;
 use oracle::layout::{COROTATIONAL, MOST, NEO_HOOKEAN, OVERFLOW, ROWS, Record, SCALAR};
 use oracle::random::Random;
-use oracle::rattle;
 use std::hint::black_box;
 use std::time::Instant;
 
@@ -27,7 +27,7 @@ fn frame(random: &mut Random, rows: u32, kinds: &[&'static Record], colour: Colo
             frame.put(row, "count", 0, 4);
         }
     }
-    assert_eq!(rattle::check(&frame.bytes), (0, 0));
+    assert_eq!(exported::check(&frame.bytes), (0, 0));
     frame.bytes
 }
 
@@ -53,7 +53,7 @@ impl Case {
             start.elapsed().as_nanos() as f64 / f64::from(rounds)
         };
         let checking = timing(&mut || {
-            black_box(rattle::check(black_box(frame)));
+            black_box(exported::check(black_box(frame)));
         });
         let copying = timing(&mut || {
             copy.copy_from_slice(black_box(frame));

@@ -5,15 +5,12 @@
 //! at some place where it can be.
 
 use oracle::check::{Refusal, test};
+use oracle::exported::{self, Lent};
+use oracle::frames;
 use oracle::layout::{RECORDS, ROWS};
-use oracle::{frames, rattle};
 use std::collections::HashMap;
 use std::env;
-use std::hint::black_box;
 use std::process::ExitCode;
-
-/// What lies on both sides of a frame while the Rattle `check` has it.
-const AROUND: [u8; 64] = [0xA5; 64];
 
 /// What was found so far.
 #[derive(Default)]
@@ -28,7 +25,7 @@ struct Found {
     altered: u64,
     /// The shortest frame on which the answers differ.
     shortest: Option<Vec<u8>>,
-    held: Vec<u8>,
+    lent: Lent,
 }
 
 impl Found {
@@ -68,18 +65,8 @@ impl Found {
 
     /// The answer of the Rattle `check` on a copy of the frame, at any alignment; the copy and what lies around it are looked at afterwards.
     fn rattle(&mut self, frame: &[u8]) -> (u32, u64) {
-        let held = &mut self.held;
-        held.clear();
-        held.extend(&AROUND[self.frames as usize % 8..]);
-        let start = held.len();
-        held.extend(frame);
-        held.extend(&AROUND);
-        let answer = rattle::check(black_box(&held[start..start + frame.len()]));
-        let held = black_box(held);
-        let (before, rest) = held.split_at(start);
-        let (same, after) = rest.split_at(frame.len());
-        let kept = same == frame && before.iter().chain(after).all(|&byte| byte == AROUND[0]);
-        self.altered += u64::from(!kept);
+        let (answer, left, stayed) = self.lent.call(frame, |lent| exported::check(lent));
+        self.altered += u64::from(left != frame || !stayed);
         answer
     }
 
@@ -175,7 +162,7 @@ fn main() -> ExitCode {
             frame.len()
         );
         println!("  independent {:?}", oracle::check::check(frame));
-        println!("  Rattle      {:?}", rattle::check(frame));
+        println!("  Rattle      {:?}", exported::check(frame));
     }
     println!(
         "{} answers differ, {} buffers altered",

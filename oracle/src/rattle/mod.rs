@@ -2,7 +2,6 @@
 //!
 //! This is the one place that says how they are called: `rt_NAME`, structs by value as C lays them out, arrays by pointer with the
 //! answer's place last. A function is added by its declaration and its line in the `RATTLE` of its file.
-//! Beside them the `check` of the static library `frame`, which is no function of words.
 
 /// Functions of values under their names, as functions of words.
 macro_rules! rattle {
@@ -12,14 +11,12 @@ macro_rules! rattle {
 }
 
 mod arithmetic;
-mod check;
 mod laid;
 mod rows;
 
 pub use arithmetic::{
     differing_roots, rt_extract_rotation, rt_mat_mul, rt_root, rt_symmetric_eigen, rt_try_inverse,
 };
-pub use check::check;
 pub use rows::{Linked, ready};
 
 use crate::answers::Call;

@@ -11,17 +11,15 @@ mod formrun;
 mod happened;
 
 use happened::Happened;
+use oracle::exported::{self, Lent};
 use oracle::frames::{self, Frame, SORTS, Sizes, damaged, exchanged_overflow, relisting, runs};
 use oracle::layout::Record;
 use oracle::random::Random;
-use oracle::{exported, run};
+use oracle::run;
 use std::env;
 use std::hint::black_box;
 use std::path::PathBuf;
 use std::process::ExitCode;
-
-/// What lies on both sides of a frame while the library has it.
-const AROUND: [u8; 64] = [0xA5; 64];
 
 /// What is asked for.
 struct Asked {
@@ -93,7 +91,7 @@ struct Found {
     differ: u64,
     shortest: Option<Differing>,
     small: bool,
-    held: Vec<u8>,
+    lent: Lent,
 }
 
 impl Found {
@@ -139,17 +137,8 @@ impl Found {
             let answer = exported::run(black_box(&mut own));
             return (answer, own.into_vec(), true);
         }
-        let held = &mut self.held;
-        held.clear();
-        held.extend(&AROUND[self.frames as usize % 8..]);
-        let start = held.len();
-        held.extend(frame);
-        held.extend(&AROUND);
-        let answer = exported::run(black_box(&mut held[start..start + frame.len()]));
-        let (before, rest) = held.split_at(start);
-        let (left, after) = rest.split_at(frame.len());
-        let kept = before.iter().chain(after).all(|&byte| byte == AROUND[0]);
-        (answer, left.to_vec(), kept)
+        let (answer, left, stayed) = self.lent.call(frame, exported::run);
+        (answer, left.to_vec(), stayed)
     }
 
     fn differs(&mut self, what: &'static str, frame: &[u8], told: String) {
