@@ -70,7 +70,7 @@ put-vec3-same b k y f =
 
 -- ---- after other puts: bytes stay bytes, and a vector beside what is put stays
 
-bytes-set : (l : List ℕ) (i a : ℕ) → Bytes l → a < 256 → Bytes (set l i a)
+pub bytes-set : (l : List ℕ) (i a : ℕ) → Bytes l → a < 256 → Bytes (set l i a)
 bytes-set [] i a y h j = y j
 bytes-set (x ∷ l) zero a y h zero = h
 bytes-set (x ∷ l) zero a y h (suc j) = y (suc j)

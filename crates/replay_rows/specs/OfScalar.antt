@@ -1,16 +1,12 @@
 -- The records of the row functions of the crate `scalar`: a row's 46 words start with its colour, its flag, its type, its count and its ids. Assumes nothing.
-use Prim.Native.Nat.{ℕ, _+_, _/_, _%_}
-use mathlib.Core.Path.{_≡_, refl, sym, _∙_}
-use mathlib.Core.Bool.{Bool, true, false, not, cond, _&&_}
+use Prim.Native.Nat.{ℕ, _+_}
+use mathlib.Core.Bool.{Bool, not, cond, _&&_}
 use mathlib.Core.List.{List, [], _∷_}
-use borrow.Author.Tests.{eq-eqb, ne-eqb}
 use lib.Dec.{eqb, ltb}
 use lib.Ieee.{Float}
 use lib.ListN.{getD}
-use Rattle.loops.specs.Loops.{cond-yes}
 use Rattle.real.specs.Float.{f1}
 use Rattle.vector.specs.declared.Four.{Four}
-use Rattle.places.specs.declared.Holds.{Holds}
 use Rattle.places.specs.declared.Ids.{Ids}
 use Rattle.gradients.specs.Gradients.{computeGradients}
 use Rattle.scalar.specs.Row as rules
@@ -21,6 +17,8 @@ use Rattle.scalar.specs.declared.Solved.{Solved}
 use Rattle.replay.specs.Words.{float, four, floatIs, fourAre}
 use Rattle.replay.specs.Tallies.{File}
 use Rattle.replay_rows.specs.Points.{sameWords, flagIs, ids, masses, massesAre, seenFrom, positions, velocities, lost, velocitiesAre}
+use Rattle.replay_rows.specs.Steps.{begunBy, mainBy, resweptBy}
+use Rattle.replay_rows.specs.declared.points.Seen.{Seen}
 use Rattle.replay_rows.specs.declared.of_scalar.Scalar.{Scalar}
 use Rattle.replay_rows.specs.declared.of_scalar.Scalar.the-variants.{ComputeGradients, Update, Warmstart, Solve, IsStrained, MainStep, ResweepStep}
 use Rattle.replay_rows.specs.declared.of_scalar.Scene.{Scene}
@@ -92,50 +90,19 @@ warmed s coeff = after s (rules.warmstart (s .row) coeff)
 unfoldable pub solved : Scene → Scene
 solved s = after s (rules.solve (s .row) (velocities (s .seen)))
 
+abbrev pub scene : SoftScalarConstraint → Bool → Seen → Scene
+scene r b p = record { row = r; strained = b; seen = p }
+
 -- where bit 0 of the mode is set: the peak, the update and the flag
-unfoldable pub begun : Scene → List ℕ → Scene
-begun s w =
-    let row = rules.begin (s .row) (positions w 3 (s .seen)) in
-    cond (eqb (getD w 0 0 % 2) 0) s (record { row = row; strained = rules.isStrained row (float w 2); seen = s .seen })
+abbrev pub begun : Scene → List ℕ → Scene
+begun = begunBy scene (λ s. s .row) (λ s. s .seen) rules.begin rules.isStrained
 
 -- and where bit 1 is: the warm start
-unfoldable pub mainStep : List ℕ → Scene
-mainStep w =
-    let s = begun (sceneOf w 3 34) w in
-    cond (eqb (getD w 0 0 / 2 % 2) 0) (solved s) (solved (warmed s (float w 1)))
+abbrev pub mainStep : List ℕ → Scene
+mainStep w = mainBy begun warmed solved (sceneOf w 3 34) w
 
-unfoldable pub resweepStep : List ℕ → Scene
-resweepStep w = let s = sceneOf w 0 31 in cond (s .strained) (solved s) s
-
--- ---- each case of the choices
-
-module _ (s : Scene) (w : List ℕ) where
-  pub stays : getD w 0 0 % 2 ≡ 0 → s ≡ begun s w
-  unfolding begun
-  stays h = rw (eq-eqb (getD w 0 0 % 2) 0 h) refl
-
-  pub begins : {held : Holds} {row : SoftScalarConstraint} {least : Float} {b : Bool} → (getD w 0 0 % 2 ≡ 0 → ⊥) → held ≡ positions w 3 (s .seen)
-      → row ≡ rules.begin (s .row) held → least ≡ float w 2 → b ≡ rules.isStrained row least → record { row = row; strained = b; seen = s .seen } ≡ begun s w
-  unfolding begun
-  begins h a e f g = rw (ne-eqb (getD w 0 0 % 2) 0 h, g, f, e, a) refl
-
-module _ (w : List ℕ) {first s r : Scene} (seen : first ≡ sceneOf w 3 34) (begun-so : s ≡ begun first w) where
-  pub colds : getD w 0 0 / 2 % 2 ≡ 0 → r ≡ solved s → r ≡ mainStep w
-  unfolding mainStep
-  colds h e = rw (← seen, ← begun-so, eq-eqb (getD w 0 0 / 2 % 2) 0 h) e
-
-  pub warms : {k : Float} {t : Scene} → (getD w 0 0 / 2 % 2 ≡ 0 → ⊥) → k ≡ float w 1 → t ≡ warmed s k → r ≡ solved t → r ≡ mainStep w
-  unfolding mainStep
-  warms h f g e = rw (← seen, ← begun-so, ne-eqb (getD w 0 0 / 2 % 2) 0 h, ← f, ← g) e
-
-module _ (w : List ℕ) {s : Scene} (seen : s ≡ sceneOf w 0 31) where
-  pub strains : {r : Scene} → s .strained ≡ true → r ≡ solved s → r ≡ resweepStep w
-  unfolding resweepStep
-  strains h e = rw (← seen) (e ∙ sym (cond-yes (s .strained) (solved s) s h))
-
-  pub does-not : s .strained ≡ false → s ≡ resweepStep w
-  unfolding resweepStep
-  does-not h = rw (← seen, h) refl
+abbrev pub resweepStep : List ℕ → Scene
+resweepStep w = resweptBy (λ s. s .strained) solved (sceneOf w 0 31)
 
 unfoldable pub sceneIs : List ℕ → ℕ → ℕ → Scene → Bool
 sceneIs w from k s = rowIs w from k (s .row) (s .strained) && velocitiesAre w (k + 46) (s .seen)

@@ -1,9 +1,9 @@
 -- What is put back as it was read leaves the same bytes, also after other puts beside it: the positions of places that are skipped, and the gradients that a distance row leaves. Assumes nothing.
-use Prim.Native.Nat.{ℕ, zero, suc, _+_, _<_, _≤_, _/_, _%_}
+use Prim.Native.Nat.{ℕ, suc, _+_, _<_, _≤_, _/_, _%_}
 use mathlib.Core.Path.{_≡_, refl, sym, ap, _∙_}
 use mathlib.Core.Logic.{inr}
 use mathlib.Core.Bool.{Bool, true, false, cond, not}
-use mathlib.Core.List.{List, [], _∷_}
+use mathlib.Core.List.{List}
 use native.Mathlib.Omega.{arith}
 use lib.Dec.{eqb}
 use lib.ListN.{getD, set}
@@ -18,19 +18,12 @@ use Rattle.gradients.specs.Gradients.{distanceGradients, computeGradients}
 use Rattle.gradients.specs.declared.Gradients.{Gradients}
 use Rattle.records.specs.Layout as at
 use Rattle.floats.specs.Fields.{vec3At, fourAt, putVec3, putFour}
-use Rattle.floats.proofs.Same.{Finite3, put-vec3-same, bytes-put-vec3}
+use Rattle.floats.proofs.Same.{Finite3, put-vec3-same, bytes-set, bytes-put-vec3}
 use Rattle.stored.specs.Put.{putFlag}
 use Rattle.unassigned.specs.Assigned.{floats, when, Out, Outside, positions, gradients}
 use Rattle.unassigned.proofs.Beside.{outside-split, out-part, vec3-beside}
 
 -- ---- bytes stay bytes
-
-bytes-set : (l : List ℕ) (i a : ℕ) → Bytes l → a < 256 → Bytes (set l i a)
-bytes-set [] i a y h j = y j
-bytes-set (x ∷ l) zero a y h zero = h
-bytes-set (x ∷ l) zero a y h (suc j) = y (suc j)
-bytes-set (x ∷ l) (suc i) a y h zero = y zero
-bytes-set (x ∷ l) (suc i) a y h (suc j) = bytes-set l i a (λ m. y (suc m)) h j
 
 pub bytes-put-flag : (b : List ℕ) (i : ℕ) (t : Bool) → Bytes b → Bytes (putFlag b i t)
 bytes-put-flag b i t y =

@@ -1,6 +1,6 @@
 -- `replay_rows::of_corotational::resweep_step` meets its contract. Each way is a case of the definition. Assumes nothing.
 use borrow.Author.Needs.{needs}
-use Rattle.replay_rows.specs.OfCorotational.{strains, does-not}
+use Rattle.replay_rows.specs.Steps.{strains, does-not}
 use Rattle.replay_rows.proofs.of_corotational.resweep_step.Statement.{statement}
 use Rattle.replay_rows.proofs.of_corotational.resweep_step.Tie as tie
 

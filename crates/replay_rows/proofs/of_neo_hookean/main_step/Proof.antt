@@ -1,6 +1,6 @@
 -- `replay_rows::of_neo_hookean::main_step` meets its contract. Each way is a case of the definition. Assumes nothing.
 use borrow.Author.Needs.{needs}
-use Rattle.replay_rows.specs.OfNeoHookean.{colds, warms}
+use Rattle.replay_rows.specs.Steps.{colds, warms}
 use Rattle.replay_rows.proofs.of_neo_hookean.main_step.Statement.{statement}
 use Rattle.replay_rows.proofs.of_neo_hookean.main_step.Tie as tie
 

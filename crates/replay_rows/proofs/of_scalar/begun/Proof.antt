@@ -1,6 +1,8 @@
 -- `replay_rows::of_scalar::begun` meets its contract. Each way is a case of the definition. Assumes nothing.
 use borrow.Author.Needs.{needs}
-use Rattle.replay_rows.specs.OfScalar.{stays, begins}
+use Rattle.scalar.specs.Row as rules
+use Rattle.replay_rows.specs.Steps.{stays, begins}
+use Rattle.replay_rows.specs.OfScalar.{scene}
 use Rattle.replay_rows.proofs.of_scalar.begun.Statement.{statement}
 use Rattle.replay_rows.proofs.of_scalar.begun.Tie as tie
 
@@ -23,7 +25,7 @@ is-strained-requires : tie.Need-is-strained-requires
 is-strained-requires c κs = search needs
 
 returns-2 : tie.Need-returns-2
-returns-2 c = search begins
+returns-2 c = search (begins scene (λ s. s .row) (λ s. s .seen) rules.begin rules.isStrained)
 
 pub begun-spec : {M : Type 1} → statement M
 begun-spec =

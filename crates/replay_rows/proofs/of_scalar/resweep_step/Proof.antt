@@ -1,6 +1,6 @@
 -- `replay_rows::of_scalar::resweep_step` meets its contract. Each way is a case of the definition. Assumes nothing.
 use borrow.Author.Needs.{needs}
-use Rattle.replay_rows.specs.OfScalar.{strains, does-not}
+use Rattle.replay_rows.specs.Steps.{strains, does-not}
 use Rattle.replay_rows.proofs.of_scalar.resweep_step.Statement.{statement}
 use Rattle.replay_rows.proofs.of_scalar.resweep_step.Tie as tie
 
