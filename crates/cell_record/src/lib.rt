@@ -1,12 +1,15 @@
 // What both elastic rows share on the bytes of a record: the pose anew, the impulses, and both put back.
 ghost use mathlib.Core.Path.{_≡_};
-ghost use Prim.Native.Nat.{_≤_};
+ghost use Prim.Native.Nat.{_+_, _≤_};
 ghost use lib.ListN.{length};
 ghost use Rattle.records.specs.Layout as at;
+ghost use Rattle.strain.specs.Matrix.{matVec};
 ghost use Rattle.cell.specs.Cell as cell;
+ghost use Rattle.floats.specs.Fields.{floatsAt};
 ghost use Rattle.stored.specs.Read.{cellOf, poseOf, impulsesOf};
 ghost use Rattle.stored.specs.Put.{putFlag, putPose, putImpulses};
 ghost use Rattle.cell_record.specs.Anew.{posAnew, deformationAnew, posedAnew};
+ghost use Rattle.cell_record.specs.Product.{columnAt, withColumn};
 use cell::Impulses;
 use cell::Pose;
 use places::Holds;
@@ -91,4 +94,34 @@ pub fn put_impulses(b: &mut [u8], l: Impulses)
     let strain = l.strain;
     floats::put_floats6(b, layout::ELASTIC_STRAIN_IMPULSE, &strain);
     bytes::put_f32(b, layout::ELASTIC_VOL_IMPULSE, l.vol);
+}
+
+// ---- a 6x6 matrix of the record times a vector, column after column: the matrix is read where it is used, and not copied
+
+fn column_at(b: &[u8], k: usize, x: f32) -> [f32; 6]
+    requires { ⌜ k + 24 ≤ length (now b) ⌝ }
+    ensures { λ r. ⌜ r ≡ columnAt (now (b .entry)) k x ⌝ }
+{
+    let c = floats::floats6_at(b, k);
+    strain::scale6(&c, x)
+}
+
+fn with_column(s: &[f32; 6], b: &[u8], k: usize, x: f32) -> [f32; 6]
+    requires { ⌜ k + 24 ≤ length (now b) ⌝ }
+    ensures { λ r. ⌜ r ≡ withColumn (now (s .entry)) (now (b .entry)) k x ⌝ }
+{
+    let c = column_at(b, k, x);
+    strain::add6(s, &c)
+}
+
+pub fn product_at(b: &[u8], k: usize, v: &[f32; 6]) -> [f32; 6]
+    requires { ⌜ k + 144 ≤ length (now b) ⌝ }
+    ensures { λ r. ⌜ r ≡ matVec (floatsAt 36 (now (b .entry)) k) (now (v .entry)) ⌝ }
+{
+    let s0 = column_at(b, k, v[0]);
+    let s1 = with_column(&s0, b, k + 24, v[1]);
+    let s2 = with_column(&s1, b, k + 48, v[2]);
+    let s3 = with_column(&s2, b, k + 72, v[3]);
+    let s4 = with_column(&s3, b, k + 96, v[4]);
+    with_column(&s4, b, k + 120, v[5])
 }

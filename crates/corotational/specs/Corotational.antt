@@ -100,12 +100,14 @@ unfoldable pub applied : Mat3 → Four → Masses → Impulses → List Float �
 applied rot coeffs im l d grad x =
     record { impulses = record { strain = add6 (l .strain) d; vol = l .vol ⊕ x }; loss = volumeLosses rot coeffs im d grad x }
 
--- the volumetric row first, then the strain rows corrected by the coupling
-unfoldable pub solveCorotational : Mat3 → Four → Masses → List Float → List Float → List Float → List Float → Impulses → Volume → Holds → Solved
-solveCorotational rot coeffs im strain invA erp cfm l u vel =
-    let y = strainStep rot coeffs strain invA erp cfm (l .strain) vel in
+-- the volumetric row first, then the strain rows, which would take y, corrected by the coupling
+unfoldable pub solveRows : Mat3 → Four → Masses → Impulses → Volume → Holds → List Float → Solved
+solveRows rot coeffs im l u vel y =
     let x = volumeStep u (l .vol) (volumeRate (u .«grad_vol») vel) y in
     applied rot coeffs im l (sub6 y (scale6 (u .z) x)) (u .«grad_vol») x
+
+unfoldable pub solveCorotational : Mat3 → Four → Masses → List Float → List Float → List Float → List Float → Impulses → Volume → Holds → Solved
+solveCorotational rot coeffs im strain invA erp cfm l u vel = solveRows rot coeffs im l u vel (strainStep rot coeffs strain invA erp cfm (l .strain) vel)
 
 -- the warm start: both impulses times the coefficient, and what each place is to lose for them
 unfoldable pub warmstartCorotational : Mat3 → Four → Masses → Impulses → Four → Float → Solved

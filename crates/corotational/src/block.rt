@@ -34,7 +34,7 @@ fn volume_rate(g: Four, vel: Holds) -> f32
     add_rate(c, g.d, vel.d)
 }
 
-fn residual(
+pub fn residual(
     erp: &[f32; 6],
     cfm: &[f32; 6],
     strain: &[f32; 6],
@@ -98,6 +98,25 @@ fn applied(
     }
 }
 
+// The volumetric row first, then the strain rows, which would take y.
+pub fn solve_rows(
+    rot: Mat3,
+    coeffs: Four,
+    im: Masses,
+    l: Impulses,
+    u: Volume,
+    vel: Holds,
+    y: &[f32; 6],
+) -> Solved
+    ensures { λ r. ⌜ r ≡ spec.solveRows rot coeffs im l u vel (now (y .entry)) ⌝ }
+{
+    let x = volume_step(u, l.vol, volume_rate(u.grad_vol, vel), y);
+    let z = u.z;
+    let correction = scale6(&z, x);
+    let d = sub6(y, &correction);
+    applied(rot, coeffs, im, l, &d, u.grad_vol, x)
+}
+
 pub fn solve_corotational(
     rot: Mat3,
     coeffs: Four,
@@ -114,11 +133,7 @@ pub fn solve_corotational(
 {
     let impulse = l.strain;
     let y = strain_step(rot, coeffs, strain, inv_a, erp, cfm, &impulse, vel);
-    let x = volume_step(u, l.vol, volume_rate(u.grad_vol, vel), &y);
-    let z = u.z;
-    let correction = scale6(&z, x);
-    let d = sub6(&y, &correction);
-    applied(rot, coeffs, im, l, &d, u.grad_vol, x)
+    solve_rows(rot, coeffs, im, l, u, vel, &y)
 }
 
 pub fn warmstart_corotational(

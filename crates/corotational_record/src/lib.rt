@@ -7,7 +7,7 @@ ghost use Rattle.corotational.specs.Row as c;
 ghost use Rattle.stored.specs.Read.{springsOf, volumeOf, corotationalOf};
 ghost use Rattle.stored.specs.Put.{putVolume};
 ghost use Rattle.stored.specs.Phases.{updateCorotational, warmCorotational, solveCorotational};
-ghost use Rattle.corotational_record.specs.Parts.{volumeAnew};
+ghost use Rattle.corotational_record.specs.Parts.{volumeAnew, strainStepAt};
 use bytes::get_f32;
 use bytes::put_f32;
 use cell::Solved;
@@ -126,20 +126,31 @@ fn volume_of(b: &[u8]) -> Volume
     }
 }
 
+// What the strain rows would take if there were no volumetric row.
+fn strain_step(b: &[u8], rot: Mat3, coeffs: Four, impulse: &[f32; 6], vel: Holds) -> [f32; 6]
+    requires { ⌜ 618 ≤ length (now b) ⌝ }
+    ensures { λ r. ⌜ r ≡ strainStepAt rot coeffs (now (impulse .entry)) vel (now (b .entry)) ⌝ }
+{
+    let strain = floats6_at(b, layout::ELASTIC_STRAIN);
+    let erp = floats6_at(b, layout::CORO_ERP_STRAIN);
+    let cfm = floats6_at(b, layout::CORO_CFM_STRAIN);
+    let rate = cell::solve::strain_rates(rot, coeffs, vel);
+    let res = corotational::block::residual(&erp, &cfm, &strain, impulse, &rate);
+    cell_record::product_at(b, layout::ELASTIC_INV_A, &res)
+}
+
 fn solved(b: &[u8], vel: Holds) -> Solved
     requires { ⌜ 618 ≤ length (now b) ⌝ }
     ensures { λ r. ⌜ r ≡ c.solve (corotationalOf (now (b .entry))) vel ⌝ }
 {
-    let strain = floats6_at(b, layout::ELASTIC_STRAIN);
-    let inv_a = floats36_at(b, layout::ELASTIC_INV_A);
-    let erp = floats6_at(b, layout::CORO_ERP_STRAIN);
-    let cfm = floats6_at(b, layout::CORO_CFM_STRAIN);
     let rot = mat3_at(b, layout::ELASTIC_ROT_MAT);
     let coeffs = four_at(b, layout::ELASTIC_COEFFS);
     let im = masses_at(b, layout::ROW_IM);
     let l = impulses_of(b);
+    let impulse = l.strain;
+    let y = strain_step(b, rot, coeffs, &impulse, vel);
     let u = volume_of(b);
-    corotational::block::solve_corotational(rot, coeffs, im, &strain, &inv_a, &erp, &cfm, l, u, vel)
+    corotational::block::solve_rows(rot, coeffs, im, l, u, vel, &y)
 }
 
 pub fn solve_corotational(b: &mut [u8], vel: Holds) -> Four

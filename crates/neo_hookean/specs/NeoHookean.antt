@@ -60,15 +60,20 @@ updateBlock coeffs im p k invA strain =
 
 -- ---- solve
 
+-- M rate + dt g - λ, with M rate as it is
+unfoldable pub residual : List Float → List Float → List Float → List Float
+residual pull dtGrad impulse = sub6 (add6 pull dtGrad) impulse
+
 -- Δλ = (M A + I)⁻¹ (M rate + dt g - λ)
 unfoldable pub strainStep : Mat3 → Four → List Float → List Float → List Float → List Float → Holds → List Float
-strainStep rot coeffs invA m dtGrad impulse vel = matVec invA (sub6 (add6 (matVec m (strainRates rot coeffs vel)) dtGrad) impulse)
+strainStep rot coeffs invA m dtGrad impulse vel = matVec invA (residual (matVec m (strainRates rot coeffs vel)) dtGrad impulse)
 
--- the volumetric impulse stays: this model never uses it
+-- impulses d more, and what each place is to lose for them; the volumetric impulse stays: this model never uses it
+unfoldable pub applied : Mat3 → Four → Masses → Impulses → List Float → Solved
+applied rot coeffs im l d = record { impulses = record { strain = add6 (l .strain) d; vol = l .vol }; loss = strainLosses rot coeffs im d }
+
 unfoldable pub solveNeoHookean : Mat3 → Four → Masses → List Float → List Float → List Float → Impulses → Holds → Solved
-solveNeoHookean rot coeffs im invA m dtGrad l vel =
-    let d = strainStep rot coeffs invA m dtGrad (l .strain) vel in
-    record { impulses = record { strain = add6 (l .strain) d; vol = l .vol }; loss = strainLosses rot coeffs im d }
+solveNeoHookean rot coeffs im invA m dtGrad l vel = applied rot coeffs im l (strainStep rot coeffs invA m dtGrad (l .strain) vel)
 
 -- the warm start scales the volumetric impulse all the same
 unfoldable pub warmstartNeoHookean : Mat3 → Four → Masses → Impulses → Float → Solved

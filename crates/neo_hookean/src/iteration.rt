@@ -14,6 +14,14 @@ use strain::sub6;
 use vector::Four;
 use vector::Mat3;
 
+// M rate + dt g - λ, with M rate as it is.
+pub fn residual(pull: &[f32; 6], dt_grad: &[f32; 6], impulse: &[f32; 6]) -> [f32; 6]
+    ensures { λ r. ⌜ r ≡ spec.residual (now (pull .entry)) (now («dt_grad» .entry)) (now (impulse .entry)) ⌝ }
+{
+    let sum = add6(pull, dt_grad);
+    sub6(&sum, impulse)
+}
+
 // (M A + I)⁻¹ (M rate + dt g - λ).
 fn strain_step(
     rot: Mat3,
@@ -28,9 +36,21 @@ fn strain_step(
 {
     let rate = strain_rates(rot, coeffs, vel);
     let pull = mat_vec(m, &rate);
-    let sum = add6(&pull, dt_grad);
-    let res = sub6(&sum, impulse);
+    let res = residual(&pull, dt_grad, impulse);
     mat_vec(inv_a, &res)
+}
+
+// Impulses d more.
+pub fn applied(rot: Mat3, coeffs: Four, im: Masses, l: Impulses, d: &[f32; 6]) -> Solved
+    ensures { λ r. ⌜ r ≡ spec.applied rot coeffs im l (now (d .entry)) ⌝ }
+{
+    let old = l.strain;
+    let strain = add6(&old, d);
+    let loss = strain_losses(rot, coeffs, im, d);
+    Solved {
+        impulses: Impulses { strain, vol: l.vol },
+        loss,
+    }
 }
 
 pub fn solve_neo_hookean(
@@ -47,12 +67,7 @@ pub fn solve_neo_hookean(
 {
     let old = l.strain;
     let d = strain_step(rot, coeffs, inv_a, m, dt_grad, &old, vel);
-    let strain = add6(&old, &d);
-    let loss = strain_losses(rot, coeffs, im, &d);
-    Solved {
-        impulses: Impulses { strain, vol: l.vol },
-        loss,
-    }
+    applied(rot, coeffs, im, l, &d)
 }
 
 // The volumetric impulse is scaled too, though this model never uses it.

@@ -1,14 +1,17 @@
--- The parts of a neo-Hookean row's update, with what each reads of the record. Definitions only. Assumes nothing.
+-- The parts of a neo-Hookean row's update and of its solve, with what each reads of the record. Definitions only. Assumes nothing.
 use Prim.Native.Nat.{ℕ}
 use mathlib.Core.Bool.{cond}
 use mathlib.Core.List.{List}
 use lib.Ieee.{Float}
 use Rattle.bytes.specs.Bytes.{f32At}
+use Rattle.vector.specs.declared.Mat3.{Mat3}
+use Rattle.vector.specs.declared.Four.{Four}
 use Rattle.strain.specs.Six.{scale6}
+use Rattle.places.specs.declared.Holds.{Holds}
 use Rattle.records.specs.Layout as at
 use Rattle.cell.specs.declared.Pose.{Pose}
 use Rattle.energy.specs.Hessian.{gradient}
-use Rattle.neo_hookean.specs.NeoHookean.{isFresh, renewed}
+use Rattle.neo_hookean.specs.NeoHookean.{isFresh, renewed, strainStep}
 use Rattle.energy.specs.declared.Energy.{Energy}
 use Rattle.neo_hookean.specs.declared.Block.{Block}
 use Rattle.floats.specs.Fields.{fourAt, massesAt, floatsAt}
@@ -33,3 +36,7 @@ putAnew k b = putRenewed (k .stiffness) (k .«inv_a») b
 unfoldable pub putMoved : Pose → Energy → List Float → List ℕ → List ℕ
 putMoved pose e dtGrad b =
     cond (isFresh (pose .strain) (floatsAt 6 b at.neoStiffnessStrain)) (putPose pose b) (putAnew (blockAnew e (pose .strain) dtGrad b) (putPose pose b))
+
+-- what the strain rows take
+unfoldable pub strainStepAt : Mat3 → Four → List Float → Holds → List ℕ → List Float
+strainStepAt rot coeffs impulse vel b = strainStep rot coeffs (floatsAt 36 b at.elasticInvA) (floatsAt 36 b at.neoM) (floatsAt 6 b at.neoDtGrad) impulse vel

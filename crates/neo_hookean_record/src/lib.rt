@@ -13,7 +13,6 @@ use cell::Solved;
 use cell_record::impulses_of;
 use cell_record::put_pose;
 use energy::Energy;
-use floats::floats36_at;
 use floats::floats6_at;
 use floats::four_at;
 use floats::masses_at;
@@ -25,6 +24,7 @@ use neo_hookean::Material;
 use places::Holds;
 use records::layout;
 use vector::Four;
+use vector::Mat3;
 
 // ---- update
 
@@ -136,18 +136,29 @@ pub fn warm_neo_hookean(b: &mut [u8], coeff: f32) -> Four
 
 // ---- solve
 
+// What the strain rows take.
+fn strain_step(b: &[u8], rot: Mat3, coeffs: Four, impulse: &[f32; 6], vel: Holds) -> [f32; 6]
+    requires { ⌜ 678 ≤ length (now b) ⌝ }
+    ensures { λ r. ⌜ r ≡ spec.strainStepAt rot coeffs (now (impulse .entry)) vel (now (b .entry)) ⌝ }
+{
+    let rate = cell::solve::strain_rates(rot, coeffs, vel);
+    let pull = cell_record::product_at(b, layout::NEO_M, &rate);
+    let dt_grad = floats6_at(b, layout::NEO_DT_GRAD);
+    let res = neo_hookean::iteration::residual(&pull, &dt_grad, impulse);
+    cell_record::product_at(b, layout::ELASTIC_INV_A, &res)
+}
+
 fn solved(b: &[u8], vel: Holds) -> Solved
     requires { ⌜ 678 ≤ length (now b) ⌝ }
     ensures { λ r. ⌜ r ≡ n.solve (neoHookeanOf (now (b .entry))) vel ⌝ }
 {
-    let inv_a = floats36_at(b, layout::ELASTIC_INV_A);
-    let m = floats36_at(b, layout::NEO_M);
-    let dt_grad = floats6_at(b, layout::NEO_DT_GRAD);
     let rot = mat3_at(b, layout::ELASTIC_ROT_MAT);
     let coeffs = four_at(b, layout::ELASTIC_COEFFS);
     let im = masses_at(b, layout::ROW_IM);
     let l = impulses_of(b);
-    neo_hookean::iteration::solve_neo_hookean(rot, coeffs, im, &inv_a, &m, &dt_grad, l, vel)
+    let impulse = l.strain;
+    let d = strain_step(b, rot, coeffs, &impulse, vel);
+    neo_hookean::iteration::applied(rot, coeffs, im, l, &d)
 }
 
 // The volumetric impulse is not written: this model never uses it.

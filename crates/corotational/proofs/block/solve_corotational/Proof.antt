@@ -1,6 +1,5 @@
 -- `corotational::block::solve_corotational` meets its contract. Its calls are the definition's. Assumes nothing.
 use borrow.Author.Needs.{needs}
-use mathlib.Core.Path.{refl}
 use Rattle.corotational.specs.Corotational.{solveCorotational}
 use Rattle.corotational.proofs.block.solve_corotational.Statement.{statement}
 use Rattle.corotational.proofs.block.solve_corotational.Tie as tie
@@ -8,42 +7,12 @@ use Rattle.corotational.proofs.block.solve_corotational.Tie as tie
 strain-step-requires : tie.Need-strain-step-requires
 strain-step-requires c κs = search needs
 
-volume-rate-requires : tie.Need-volume-rate-requires
-volume-rate-requires c κs = search needs
-
-volume-step-requires : tie.Need-volume-step-requires
-volume-step-requires c κs = search needs
-
-scale6-requires : tie.Need-scale6-requires
-scale6-requires c κs = search needs
-
-sub6-requires : tie.Need-sub6-requires
-sub6-requires c κs = search needs
-
-applied-requires : tie.Need-applied-requires
-applied-requires c κs = search needs
+solve-rows-requires : tie.Need-solve-rows-requires
+solve-rows-requires c κs = search needs
 
 returns : tie.Need-returns
 unfolding solveCorotational
-returns c =
-    rw (
-      c .applied .ensures,
-      c .before .before .sub6 .ensures,
-      c .before .before .before .before .before .scale6 .ensures,
-      c .before .before .before .before .before .before .before .before .volume-step .ensures,
-      c .before .before .before .before .before .before .before .before .before .before .volume-rate .ensures,
-      c .before .before .before .before .before .before .before .before .before .before .before .strain-step .ensures,
-    )
-    refl
+returns c = cc
 
 pub solve-corotational-spec : {M : Type 1} → statement M
-solve-corotational-spec =
-    tie.close
-    (tie.spec
-    strain-step-requires
-    volume-rate-requires
-    volume-step-requires
-    scale6-requires
-    sub6-requires
-    applied-requires
-    returns)
+solve-corotational-spec = tie.close (tie.spec strain-step-requires solve-rows-requires returns)

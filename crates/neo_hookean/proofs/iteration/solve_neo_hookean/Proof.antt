@@ -7,16 +7,12 @@ use Rattle.neo_hookean.proofs.iteration.solve_neo_hookean.Tie as tie
 strain-step-requires : tie.Need-strain-step-requires
 strain-step-requires c κs = search needs
 
-add6-requires : tie.Need-add6-requires
-add6-requires c κs = search needs
-
-strain-losses-requires : tie.Need-strain-losses-requires
-strain-losses-requires c κs = search needs
+applied-requires : tie.Need-applied-requires
+applied-requires c κs = search needs
 
 returns : tie.Need-returns
 unfolding solveNeoHookean
 returns c = cc
 
 pub solve-neo-hookean-spec : {M : Type 1} → statement M
-solve-neo-hookean-spec =
-    tie.close (tie.spec strain-step-requires add6-requires strain-losses-requires returns)
+solve-neo-hookean-spec = tie.close (tie.spec strain-step-requires applied-requires returns)

@@ -10,11 +10,8 @@ strain-rates-requires c κs = search needs
 mat-vec-requires : tie.Need-mat-vec-requires
 mat-vec-requires c κs = search needs
 
-add6-requires : tie.Need-add6-requires
-add6-requires c κs = search needs
-
-sub6-requires : tie.Need-sub6-requires
-sub6-requires c κs = search needs
+residual-requires : tie.Need-residual-requires
+residual-requires c κs = search needs
 
 mat-vec-requires-2 : tie.Need-mat-vec-requires-2
 mat-vec-requires-2 c κs = search needs
@@ -26,10 +23,4 @@ returns c = cc
 pub strain-step-spec : {M : Type 1} → statement M
 strain-step-spec =
     tie.close
-    (tie.spec
-    strain-rates-requires
-    mat-vec-requires
-    add6-requires
-    sub6-requires
-    mat-vec-requires-2
-    returns)
+    (tie.spec strain-rates-requires mat-vec-requires residual-requires mat-vec-requires-2 returns)
