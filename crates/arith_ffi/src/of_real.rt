@@ -1,6 +1,5 @@
 // The exports of the crate `real`.
 use real::SinCos;
-
 ghost use mathlib.Core.Path.{_≡_};
 ghost use Rattle.real.specs.Real as spec;
 ghost use Rattle.real.specs.SinCos as sine;

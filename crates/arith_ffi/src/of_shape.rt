@@ -4,7 +4,6 @@ use vector::Four;
 use vector::Mat3;
 use vector::Quat;
 use vector::Vec3;
-
 ghost use mathlib.Core.Path.{_≡_};
 ghost use Rattle.linalg.specs.Eigen as eigen;
 ghost use Rattle.linalg.specs.Products as products;

@@ -2,7 +2,6 @@
 use vector::Mat3;
 use vector::Quat;
 use vector::Vec3;
-
 ghost use mathlib.Core.Path.{_≡_};
 ghost use Rattle.vector.specs.Vector as spec;
 ghost use Rattle.vector.specs.Matrix as matrix;

@@ -4,5 +4,4 @@ ghost use mathlib.Core.Path.{_≡_};
 // The one value of its type.
 fn nothing()
     ensures { λ r. ⌜ r ≡ tt ⌝ }
-{
-}
+{}

@@ -42,11 +42,11 @@ module _ (w : List Float) (j : ℕ) (inv : Float) (hw : length w ≡ 36) (hj : j
   stays-column : (e : ℕ) → e / 6 < j → f e ≡ at w e
   unfolding f
   stays-column e h = elim (lt-or-ge j (e % 6)) [
-      | inl r ↦
-          let s : e / 6 * 6 + e % 6 ≡ e = omega arith in
-          rw (lt-ltb j (e % 6) r, ne-eqb (e / 6) j (λ x. omega arith), le-ltb j (e / 6) (omega arith), s) refl
-      | inr r ↦ stays-row e r
-    ]
+    | inl r ↦
+        let s : e / 6 * 6 + e % 6 ≡ e = omega arith in
+        rw (lt-ltb j (e % 6) r, ne-eqb (e / 6) j (λ x. omega arith), le-ltb j (e / 6) (omega arith), s) refl
+    | inr r ↦ stays-row e r
+  ]
 
   below-pivot : (i : ℕ) → j < i → i < 6 → f (j * 6 + i) ≡ entry w i j ⊗ inv
   unfolding f
@@ -66,17 +66,17 @@ module _ (w : List Float) (j : ℕ) (inv : Float) (hw : length w ≡ 36) (hj : j
   unfolding scaled Part
   scale-all =
       let z : Part w (j * 6 + (j + 1)) =
-          sofar-skip (j * 6 + (j + 1)) (sofar-none hw) (omega arith)
-          (λ e a b. elim (lt-or-ge (e / 6) j) [
-            | inl s ↦ stays-column e s
-            | inr s ↦ stays-row e (omega arith)
-          ])
+      sofar-skip (j * 6 + (j + 1)) (sofar-none hw) (omega arith)
+      (λ e a b. elim (lt-or-ge (e / 6) j) [
+        | inl s ↦ stays-column e s
+        | inr s ↦ stays-row e (omega arith)
+      ])
       in
       let y : Part (between (j + 1) 6 (scaleStep j inv) w) (j * 6 + 6) =
-          through {a = j + 1} {n = 6} {f = scaleStep j inv} {s = w} (λ i l. Part l (j * 6 + i)) (omega arith) z
-          (λ i l a b x.
-            let k : j * 6 + (i + 1) ≡ j * 6 + i + 1 = omega arith in
-            rw k (sofar-more x (omega arith) (rw (x .left (j * 6 + i) (le-refl (j * 6 + i))) (sym (below-pivot i (omega arith) b)))))
+      through {a = j + 1} {n = 6} {f = scaleStep j inv} {s = w} (λ i l. Part l (j * 6 + i)) (omega arith) z
+      (λ i l a b x.
+      let k : j * 6 + (i + 1) ≡ j * 6 + i + 1 = omega arith in
+      rw k (sofar-more x (omega arith) (rw (x .left (j * 6 + i) (le-refl (j * 6 + i))) (sym (below-pivot i (omega arith) b)))))
       in
       let k : (j + 1) * 6 ≡ j * 6 + 6 = omega arith in
       rw k y
@@ -87,12 +87,12 @@ module _ (w : List Float) (j : ℕ) (inv : Float) (hw : length w ≡ 36) (hj : j
       let z : Part l (k * 6 + (j + 1)) = sofar-skip (k * 6 + (j + 1)) x (omega arith) (λ e a b. stays-row e (omega arith)) in
       let top : entry l j k ≡ entry w j k = x .left (k * 6 + j) (omega arith) in
       let y : Part (between (j + 1) 6 (reduceStep j k (entry l j k)) l) (k * 6 + 6) =
-          through {a = j + 1} {n = 6} {f = reduceStep j k (entry l j k)} {s = l} (λ i t. Part t (k * 6 + i)) (omega arith) z
-          (λ i t a b y.
-            let q : k * 6 + (i + 1) ≡ k * 6 + i + 1 = omega arith in
-            let own : entry t i k ≡ entry w i k = y .left (k * 6 + i) (le-refl (k * 6 + i)) in
-            let factor : entry t i j ≡ entry w i j ⊗ inv = y .done (j * 6 + i) (omega arith) ∙ below-pivot i (omega arith) b in
-            rw q (sofar-more y (omega arith) (rw (own, factor, top) (sym (right-of i k (omega arith) b hk)))))
+      through {a = j + 1} {n = 6} {f = reduceStep j k (entry l j k)} {s = l} (λ i t. Part t (k * 6 + i)) (omega arith) z
+      (λ i t a b y.
+      let q : k * 6 + (i + 1) ≡ k * 6 + i + 1 = omega arith in
+      let own : entry t i k ≡ entry w i k = y .left (k * 6 + i) (le-refl (k * 6 + i)) in
+      let factor : entry t i j ≡ entry w i j ⊗ inv = y .done (j * 6 + i) (omega arith) ∙ below-pivot i (omega arith) b in
+      rw q (sofar-more y (omega arith) (rw (own, factor, top) (sym (right-of i k (omega arith) b hk)))))
       in
       let e : (k + 1) * 6 ≡ k * 6 + 6 = omega arith in
       rw e y
@@ -101,8 +101,8 @@ module _ (w : List Float) (j : ℕ) (inv : Float) (hw : length w ≡ 36) (hj : j
   unfolding eliminate Part f
   eliminate-all =
       let z : Part (between (j + 1) 6 (reduced j) (scaled j inv w)) (6 * 6) =
-          through {a = j + 1} {n = 6} {f = reduced j} {s = scaled j inv w} (λ k l. Part l (k * 6)) (omega arith) scale-all
-          (λ k l a b x. reduce-more k l (omega arith) b x)
+      through {a = j + 1} {n = 6} {f = reduced j} {s = scaled j inv w} (λ k l. Part l (k * 6)) (omega arith) scale-all
+      (λ k l a b x. reduce-more k l (omega arith) b x)
       in
       sofar-all z (omega arith)
 

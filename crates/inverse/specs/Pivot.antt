@@ -64,32 +64,32 @@ other-column l p j k i q hp hj hi n =
 
 exchange-own : (p j : ℕ) → exchange p j j ≡ p
 exchange-own p j = elim (same-or-not j p) [
-    | inl s ↦ rw (eq-eqb j p s) s
-    | inr s ↦ rw (ne-eqb j p s, eq-eqb j j refl) refl
-  ]
+  | inl s ↦ rw (eq-eqb j p s) s
+  | inr s ↦ rw (ne-eqb j p s, eq-eqb j j refl) refl
+]
 
 module _ (m : List Float) (p j : ℕ) (hp : p < 6) (hj : j < 6) where
   own-column : (k : ℕ) (l : List Float) → k < 6 → Swapping m p j k l → (i : ℕ) → i < 6 → entry (swapStep p j k l) i k ≡ entry m (exchange p j i) k
   own-column k l hk z i hi = elim (same-or-not i j) [
-      | inl s ↦
-          let b : k * 6 + j < length (set l (k * 6 + p) (entry l j k)) = rw (length-set, z .long) (omega arith) in
-          rw (s, exchange-own p j) (getD-set-same (set l (k * 6 + p) (entry l j k)) (k * 6 + j) (entry l p k) nan b ∙ z .left p k hp (le-refl k))
-      | inr s ↦
-          getD-set-other (set l (k * 6 + p) (entry l j k)) (k * 6 + j) (k * 6 + i) (entry l p k) nan (λ e. s (omega arith))
-          ∙ elim (same-or-not i p) [
-            | inl t ↦ rw (t, eq-eqb p p refl) (getD-set-same l (k * 6 + p) (entry l j k) nan (rw (z .long) (omega arith)) ∙ z .left j k hj (le-refl k))
-            | inr t ↦ rw (ne-eqb i p t, ne-eqb i j s) (getD-set-other l (k * 6 + p) (k * 6 + i) (entry l j k) nan (λ e. t (omega arith)) ∙ z .left i k hi (le-refl k))
-          ]
-    ]
+    | inl s ↦
+        let b : k * 6 + j < length (set l (k * 6 + p) (entry l j k)) = rw (length-set, z .long) (omega arith) in
+        rw (s, exchange-own p j) (getD-set-same (set l (k * 6 + p) (entry l j k)) (k * 6 + j) (entry l p k) nan b ∙ z .left p k hp (le-refl k))
+    | inr s ↦
+        getD-set-other (set l (k * 6 + p) (entry l j k)) (k * 6 + j) (k * 6 + i) (entry l p k) nan (λ e. s (omega arith))
+        ∙ elim (same-or-not i p) [
+          | inl t ↦ rw (t, eq-eqb p p refl) (getD-set-same l (k * 6 + p) (entry l j k) nan (rw (z .long) (omega arith)) ∙ z .left j k hj (le-refl k))
+          | inr t ↦ rw (ne-eqb i p t, ne-eqb i j s) (getD-set-other l (k * 6 + p) (k * 6 + i) (entry l j k) nan (λ e. t (omega arith)) ∙ z .left i k hi (le-refl k))
+        ]
+  ]
 
   swap-more : (k : ℕ) (l : List Float) → k < 6 → Swapping m p j k l → Swapping m p j (k + 1) (swapStep p j k l)
   swap-more k l hk z =
       record {
         long = simp length-set (z .long);
         done = λ i q hi h. elim (same-or-not q k) [
-            | inl s ↦ rw s (own-column k l hk z i hi)
-            | inr s ↦ other-column l p j k i q hp hj hi s ∙ z .done i q hi (omega arith)
-          ];
+          | inl s ↦ rw s (own-column k l hk z i hi)
+          | inr s ↦ other-column l p j k i q hp hj hi s ∙ z .done i q hi (omega arith)
+        ];
         left = λ i q hi h. other-column l p j k i q hp hj hi (λ e. omega arith) ∙ z .left i q hi (omega arith);
       }
 
@@ -97,15 +97,15 @@ module _ (m : List Float) (p j : ℕ) (hp : p < 6) (hj : j < 6) where
   unfolding swapRows
   swap-all h =
       let z : Swapping m p j 6 (upTo 6 (swapStep p j) m) =
-          through {a = 0} {n = 6} {f = swapStep p j} {s = m} (λ k l. Swapping m p j k l) (omega arith)
-          (record { long = h; done = λ i q hi n. absurd (omega arith); left = λ i q hi n. refl })
-          (λ k l a b y. swap-more k l b y)
+      through {a = 0} {n = 6} {f = swapStep p j} {s = m} (λ k l. Swapping m p j k l) (omega arith)
+      (record { long = h; done = λ i q hi n. absurd (omega arith); left = λ i q hi n. refl })
+      (λ k l a b y. swap-more k l b y)
       in
       let g : ℕ → Float = λ k. entry m (exchange p j (k % 6)) (k / 6) in
       ext-getD nan (upTo 6 (swapStep p j) m) (tabulate 36 g) (z .long ∙ sym (length-tabFrom 0 36 g))
       (λ e b.
-        let s : e / 6 * 6 + e % 6 ≡ e = omega arith in
-        rw s at (z .done (e % 6) (e / 6) (omega arith) (omega (arith, z .long))) ∙ sym (getD-tabulate nan 36 g e (omega (arith, z .long))))
+      let s : e / 6 * 6 + e % 6 ≡ e = omega arith in
+      rw s at (z .done (e % 6) (e / 6) (omega arith) (omega (arith, z .long))) ∙ sym (getD-tabulate nan 36 g e (omega (arith, z .long))))
 
 pub length-swapRows : (m : List Float) (p j : ℕ) → length (swapRows m p j) ≡ 36
 unfolding swapRows

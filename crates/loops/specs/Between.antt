@@ -107,9 +107,9 @@ module _ {A : Type 0} {d : A} {n : ℕ} {w : List A} {f : ℕ → A} where
       record {
         long = z .long;
         done = λ e p. elim (lt-or-ge e k) [
-            | inl s ↦ z .done e s
-            | inr s ↦ z .left e s ∙ sym (g e s p)
-          ];
+          | inl s ↦ z .done e s
+          | inr s ↦ z .left e s ∙ sym (g e s p)
+        ];
         left = λ e p. z .left e (omega arith);
       }
 

@@ -3,7 +3,6 @@ use mathlib.Core.Path.{_≡_}
 use mathlib.Core.List.{List, [], _∷_, _++_}
 
 infix 4 _gives_
-
 -- a row: what a rule makes of an input, and what the paper says that it makes
 pub data Row : Type 1 where
   _gives_ : {A : Type 0} → A → A → Row

@@ -9,7 +9,6 @@ infixl 6 _⊖_
 infixl 7 _⊗_
 infixl 7 _⊘_
 infixl 7 _⊙_
-
 abbrev pub _⊕_ : Float → Float → Float
 x ⊕ y = add binary32 x y
 

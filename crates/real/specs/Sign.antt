@@ -29,9 +29,9 @@ same nan s m e hx hy v = absurd v
 same (inf t) s m e hx hy v = absurd v
 same (fin t n d) s m e hx hy v =
     let cross : n * up d * 2 ^ 149 * down e ≡ m * up e * 2 ^ 149 * down d =
-        mul-right-comm (n * up d) (2 ^ 149) (down e) ∙ ap (λ (k : ℕ). k * 2 ^ 149) (v .1) ∙ mul-right-comm (m * up e) (down d) (2 ^ 149) in
+    mul-right-comm (n * up d) (2 ^ 149) (down e) ∙ ap (λ (k : ℕ). k * 2 ^ 149) (v .1) ∙ mul-right-comm (m * up e) (down d) (2 ^ 149) in
     let bits : toBits binary32 (fin t n d) ≡ toBits binary32 (fin s m e) =
-        ap (λ (b : Bool). toBits binary32 (fin b n d)) (v .0) ∙ pattern s n m d e (div-same (n * up d * 2 ^ 149) (down d) (m * up e * 2 ^ 149) (down e) (down-pos d) (down-pos e) cross) in
+    ap (λ (b : Bool). toBits binary32 (fin b n d)) (v .0) ∙ pattern s n m d e (div-same (n * up d * 2 ^ 149) (down d) (m * up e * 2 ^ 149) (down e) (down-pos d) (down-pos e) cross) in
     sym (ofBits-toBits binary32 (fin t n d) hx) ∙ ap (λ (b : ℕ). ofBits binary32 b) bits ∙ ofBits-toBits binary32 (fin s m e) hy
 
 -- ---- rounding leaves an f32 as it is

@@ -108,12 +108,19 @@ pub fn sin_cos(w: f32) -> SinCos
 }
 
 const C0: f32 = 1.5707963050;
+
 const C1: f32 = -0.2145988016;
+
 const C2: f32 = 0.0889789874;
+
 const C3: f32 = -0.0501743046;
+
 const C4: f32 = 0.0308918810;
+
 const C5: f32 = -0.0170881256;
+
 const C6: f32 = 0.0066700901;
+
 const C7: f32 = -0.0012624911;
 
 fn acos_polynomial(d: f32) -> f32

@@ -40,11 +40,21 @@ pub(crate) fn all(t: Tally) -> Tally
     let t = replay_file(t, b"sub_mat.bin", Function::Matrix(Matrix::SubMat), 27);
     let t = replay_file(t, b"scale_mat.bin", Function::Matrix(Matrix::ScaleMat), 19);
     let t = replay_file(t, b"transpose.bin", Function::Matrix(Matrix::Transpose), 18);
-    let t = replay_file(t, b"determinant.bin", Function::Matrix(Matrix::Determinant), 10);
+    let t = replay_file(
+        t,
+        b"determinant.bin",
+        Function::Matrix(Matrix::Determinant),
+        10,
+    );
     let t = replay_file(t, b"product.bin", Function::Matrix(Matrix::Product), 12);
     let t = replay_file(t, b"normalise.bin", Function::Matrix(Matrix::Normalise), 8);
     let t = replay_file(t, b"to_matrix.bin", Function::Matrix(Matrix::ToMatrix), 13);
-    replay_file(t, b"from_axis_angle.bin", Function::Matrix(Matrix::FromAxisAngle), 8)
+    replay_file(
+        t,
+        b"from_axis_angle.bin",
+        Function::Matrix(Matrix::FromAxisAngle),
+        8,
+    )
 }
 
 // Whether the function's answer to the record's first words is what stands after them.
@@ -62,6 +72,10 @@ pub(crate) fn agrees(f: Matrix, w: &[u32; 400]) -> bool
         Matrix::Product => quat_is(w, 8, quaternion::product(quat(w, 0), quat(w, 4))),
         Matrix::Normalise => quat_is(w, 4, quaternion::normalise(quat(w, 0))),
         Matrix::ToMatrix => mat3_is(w, 4, quaternion::to_matrix(quat(w, 0))),
-        Matrix::FromAxisAngle => quat_is(w, 4, quaternion::from_axis_angle(vec3(w, 0), float(w, 3))),
+        Matrix::FromAxisAngle => quat_is(
+            w,
+            4,
+            quaternion::from_axis_angle(vec3(w, 0), float(w, 3)),
+        ),
     }
 }

@@ -33,13 +33,43 @@ pub(crate) enum Shape {
 pub(crate) fn all(t: Tally) -> Tally
     ensures { λ r. ⌜ Through spec.files t r ⌝ }
 {
-    let t = replay_file(t, b"symmetric_eigen.bin", Function::Shape(Shape::SymmetricEigen), 21);
+    let t = replay_file(
+        t,
+        b"symmetric_eigen.bin",
+        Function::Shape(Shape::SymmetricEigen),
+        21,
+    );
     let t = replay_file(t, b"cofactor.bin", Function::Shape(Shape::Cofactor), 18);
-    let t = replay_file(t, b"outer_product.bin", Function::Shape(Shape::OuterProduct), 15);
-    let t = replay_file(t, b"extract_rotation.bin", Function::Shape(Shape::ExtractRotation), 17);
-    let t = replay_file(t, b"cell_volume.bin", Function::Shape(Shape::CellVolume), 13);
-    let t = replay_file(t, b"cell_volume_gradients.bin", Function::Shape(Shape::CellVolumeGradients), 24);
-    replay_file(t, b"cell_edge_matrix.bin", Function::Shape(Shape::CellEdgeMatrix), 21)
+    let t = replay_file(
+        t,
+        b"outer_product.bin",
+        Function::Shape(Shape::OuterProduct),
+        15,
+    );
+    let t = replay_file(
+        t,
+        b"extract_rotation.bin",
+        Function::Shape(Shape::ExtractRotation),
+        17,
+    );
+    let t = replay_file(
+        t,
+        b"cell_volume.bin",
+        Function::Shape(Shape::CellVolume),
+        13,
+    );
+    let t = replay_file(
+        t,
+        b"cell_volume_gradients.bin",
+        Function::Shape(Shape::CellVolumeGradients),
+        24,
+    );
+    replay_file(
+        t,
+        b"cell_edge_matrix.bin",
+        Function::Shape(Shape::CellEdgeMatrix),
+        21,
+    )
 }
 
 // Whether the function's answer to the record's first words is what stands after them.
@@ -50,7 +80,11 @@ pub(crate) fn agrees(f: Shape, w: &[u32; 400]) -> bool
         Shape::SymmetricEigen => eigen_is(w, 9, linalg::symmetric_eigen(mat3(w, 0))),
         Shape::Cofactor => mat3_is(w, 9, linalg::cofactor(mat3(w, 0))),
         Shape::OuterProduct => mat3_is(w, 6, linalg::outer_product(vec3(w, 0), vec3(w, 3))),
-        Shape::ExtractRotation => quat_is(w, 13, rotation::extract_rotation(mat3(w, 0), quat(w, 9))),
+        Shape::ExtractRotation => quat_is(
+            w,
+            13,
+            rotation::extract_rotation(mat3(w, 0), quat(w, 9)),
+        ),
         Shape::CellVolume => float_is(w, 12, cell::cell_volume(four(w, 0))),
         Shape::CellVolumeGradients => four_are(w, 12, cell::cell_volume_gradients(four(w, 0))),
         Shape::CellEdgeMatrix => mat3_is(w, 12, cell::cell_edge_matrix(four(w, 0))),

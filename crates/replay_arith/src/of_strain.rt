@@ -35,16 +35,31 @@ pub(crate) fn all(t: Tally) -> Tally
     let t = replay_file(t, b"add6.bin", Function::Strain(Strain::Add6), 18);
     let t = replay_file(t, b"sub6.bin", Function::Strain(Strain::Sub6), 18);
     let t = replay_file(t, b"scale6.bin", Function::Strain(Strain::Scale6), 13);
-    let t = replay_file(t, b"component_mul6.bin", Function::Strain(Strain::ComponentMul6), 18);
+    let t = replay_file(
+        t,
+        b"component_mul6.bin",
+        Function::Strain(Strain::ComponentMul6),
+        18,
+    );
     let t = replay_file(t, b"dot6.bin", Function::Strain(Strain::Dot6), 13);
     let t = replay_file(t, b"mat_vec.bin", Function::Strain(Strain::MatVec), 48);
     let t = replay_file(t, b"mat_mul.bin", Function::Strain(Strain::MatMul), 108);
     let t = replay_file(t, b"add36.bin", Function::Strain(Strain::Add36), 108);
     let t = replay_file(t, b"scale36.bin", Function::Strain(Strain::Scale36), 73);
     let t = replay_file(t, b"ger.bin", Function::Strain(Strain::Ger), 79);
-    let t = replay_file(t, b"from_diagonal.bin", Function::Strain(Strain::FromDiagonal), 42);
+    let t = replay_file(
+        t,
+        b"from_diagonal.bin",
+        Function::Strain(Strain::FromDiagonal),
+        42,
+    );
     let t = replay_file(t, b"identity6.bin", Function::Strain(Strain::Identity6), 36);
-    replay_file(t, b"try_inverse.bin", Function::Strain(Strain::TryInverse), 72)
+    replay_file(
+        t,
+        b"try_inverse.bin",
+        Function::Strain(Strain::TryInverse),
+        72,
+    )
 }
 
 // Whether the function's answer to the record's first words is what stands after them.

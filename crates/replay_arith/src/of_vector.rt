@@ -30,8 +30,18 @@ pub(crate) fn all(t: Tally) -> Tally
     let t = replay_file(t, b"dot.bin", Function::Vector(Vector::Dot), 7);
     let t = replay_file(t, b"cross.bin", Function::Vector(Vector::Cross), 9);
     let t = replay_file(t, b"length.bin", Function::Vector(Vector::Length), 4);
-    let t = replay_file(t, b"length_squared.bin", Function::Vector(Vector::LengthSquared), 4);
-    let t = replay_file(t, b"element_sum.bin", Function::Vector(Vector::ElementSum), 4);
+    let t = replay_file(
+        t,
+        b"length_squared.bin",
+        Function::Vector(Vector::LengthSquared),
+        4,
+    );
+    let t = replay_file(
+        t,
+        b"element_sum.bin",
+        Function::Vector(Vector::ElementSum),
+        4,
+    );
     let t = replay_file(t, b"add.bin", Function::Vector(Vector::Add), 9);
     let t = replay_file(t, b"sub.bin", Function::Vector(Vector::Sub), 9);
     let t = replay_file(t, b"scale.bin", Function::Vector(Vector::Scale), 7);

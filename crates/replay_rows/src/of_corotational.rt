@@ -6,8 +6,8 @@ ghost use Rattle.corotational.specs.Row.{withImpulses};
 ghost use Prim.Native.Nat.{_+_, _≤_};
 use crate::Function;
 use crate::elastic;
-use crate::points::Seen;
 use crate::points;
+use crate::points::Seen;
 use crate::replay_file;
 use cell::Impulses;
 use cell::Solved;
@@ -36,12 +36,42 @@ pub(crate) enum Corotational {
 pub(crate) fn all(t: Tally) -> Tally
     ensures { λ r. ⌜ Through spec.files t r ⌝ }
 {
-    let t = replay_file(t, b"corotational_update.bin", Function::Corotational(Corotational::Update), 341);
-    let t = replay_file(t, b"corotational_warmstart.bin", Function::Corotational(Corotational::Warmstart), 201);
-    let t = replay_file(t, b"corotational_solve.bin", Function::Corotational(Corotational::Solve), 356);
-    let t = replay_file(t, b"corotational_is_strained.bin", Function::Corotational(Corotational::IsStrained), 157);
-    let t = replay_file(t, b"corotational_main_step.bin", Function::Corotational(Corotational::MainStep), 359);
-    replay_file(t, b"corotational_resweep_step.bin", Function::Corotational(Corotational::ResweepStep), 356)
+    let t = replay_file(
+        t,
+        b"corotational_update.bin",
+        Function::Corotational(Corotational::Update),
+        341,
+    );
+    let t = replay_file(
+        t,
+        b"corotational_warmstart.bin",
+        Function::Corotational(Corotational::Warmstart),
+        201,
+    );
+    let t = replay_file(
+        t,
+        b"corotational_solve.bin",
+        Function::Corotational(Corotational::Solve),
+        356,
+    );
+    let t = replay_file(
+        t,
+        b"corotational_is_strained.bin",
+        Function::Corotational(Corotational::IsStrained),
+        157,
+    );
+    let t = replay_file(
+        t,
+        b"corotational_main_step.bin",
+        Function::Corotational(Corotational::MainStep),
+        359,
+    );
+    replay_file(
+        t,
+        b"corotational_resweep_step.bin",
+        Function::Corotational(Corotational::ResweepStep),
+        356,
+    )
 }
 
 // Whether the function's answer to the record's first words is what stands after them.
@@ -52,7 +82,11 @@ pub(crate) fn agrees(f: Corotational, w: &[u32; 400]) -> bool
         Corotational::Update => update_is(w),
         Corotational::Warmstart => warmstart_is(w),
         Corotational::Solve => scene_is(w, 31, 186, solved(scene_of(w, 0, 31))),
-        Corotational::IsStrained => points::flag_is(w, 156, elastic::is_strained(elastic::pose(w, 0), float(w, 155))),
+        Corotational::IsStrained => points::flag_is(
+            w,
+            156,
+            elastic::is_strained(elastic::pose(w, 0), float(w, 155)),
+        ),
         Corotational::MainStep => scene_is(w, 34, 189, main_step(w)),
         Corotational::ResweepStep => scene_is(w, 31, 186, resweep_step(w)),
     }

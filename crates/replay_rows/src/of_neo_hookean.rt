@@ -6,8 +6,8 @@ ghost use Rattle.neo_hookean.specs.Row.{withImpulses};
 ghost use Prim.Native.Nat.{_+_, _≤_};
 use crate::Function;
 use crate::elastic;
-use crate::points::Seen;
 use crate::points;
+use crate::points::Seen;
 use crate::replay_file;
 use cell::Impulses;
 use cell::Solved;
@@ -35,12 +35,42 @@ pub(crate) enum NeoHookean {
 pub(crate) fn all(t: Tally) -> Tally
     ensures { λ r. ⌜ Through spec.files t r ⌝ }
 {
-    let t = replay_file(t, b"neo_hookean_update.bin", Function::NeoHookean(NeoHookean::Update), 371);
-    let t = replay_file(t, b"neo_hookean_warmstart.bin", Function::NeoHookean(NeoHookean::Warmstart), 216);
-    let t = replay_file(t, b"neo_hookean_solve.bin", Function::NeoHookean(NeoHookean::Solve), 386);
-    let t = replay_file(t, b"neo_hookean_is_strained.bin", Function::NeoHookean(NeoHookean::IsStrained), 172);
-    let t = replay_file(t, b"neo_hookean_main_step.bin", Function::NeoHookean(NeoHookean::MainStep), 389);
-    replay_file(t, b"neo_hookean_resweep_step.bin", Function::NeoHookean(NeoHookean::ResweepStep), 386)
+    let t = replay_file(
+        t,
+        b"neo_hookean_update.bin",
+        Function::NeoHookean(NeoHookean::Update),
+        371,
+    );
+    let t = replay_file(
+        t,
+        b"neo_hookean_warmstart.bin",
+        Function::NeoHookean(NeoHookean::Warmstart),
+        216,
+    );
+    let t = replay_file(
+        t,
+        b"neo_hookean_solve.bin",
+        Function::NeoHookean(NeoHookean::Solve),
+        386,
+    );
+    let t = replay_file(
+        t,
+        b"neo_hookean_is_strained.bin",
+        Function::NeoHookean(NeoHookean::IsStrained),
+        172,
+    );
+    let t = replay_file(
+        t,
+        b"neo_hookean_main_step.bin",
+        Function::NeoHookean(NeoHookean::MainStep),
+        389,
+    );
+    replay_file(
+        t,
+        b"neo_hookean_resweep_step.bin",
+        Function::NeoHookean(NeoHookean::ResweepStep),
+        386,
+    )
 }
 
 // Whether the function's answer to the record's first words is what stands after them.
@@ -51,7 +81,11 @@ pub(crate) fn agrees(f: NeoHookean, w: &[u32; 400]) -> bool
         NeoHookean::Update => update_is(w),
         NeoHookean::Warmstart => warmstart_is(w),
         NeoHookean::Solve => scene_is(w, 31, 201, solved(scene_of(w, 0, 31))),
-        NeoHookean::IsStrained => points::flag_is(w, 171, elastic::is_strained(elastic::pose(w, 0), float(w, 170))),
+        NeoHookean::IsStrained => points::flag_is(
+            w,
+            171,
+            elastic::is_strained(elastic::pose(w, 0), float(w, 170)),
+        ),
         NeoHookean::MainStep => scene_is(w, 34, 204, main_step(w)),
         NeoHookean::ResweepStep => scene_is(w, 31, 201, resweep_step(w)),
     }

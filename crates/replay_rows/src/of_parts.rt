@@ -35,13 +35,48 @@ pub(crate) enum Part {
 pub(crate) fn all(t: Tally) -> Tally
     ensures { λ r. ⌜ Through spec.files t r ⌝ }
 {
-    let t = replay_file(t, b"dihedral_gradients.bin", Function::Part(Part::DihedralGradients), 26);
-    let t = replay_file(t, b"neo_hookean_gradient.bin", Function::Part(Part::NeoHookeanGradient), 24);
-    let t = replay_file(t, b"neo_hookean_hessian.bin", Function::Part(Part::NeoHookeanHessian), 48);
-    let t = replay_file(t, b"strain_block_from_g.bin", Function::Part(Part::StrainBlockFromG), 45);
-    let t = replay_file(t, b"strain_rows_of.bin", Function::Part(Part::StrainRowsOf), 15);
-    let t = replay_file(t, b"strain_rows_dual.bin", Function::Part(Part::StrainRowsDual), 15);
-    let t = replay_file(t, b"strain_matrix.bin", Function::Part(Part::StrainMatrix), 15);
+    let t = replay_file(
+        t,
+        b"dihedral_gradients.bin",
+        Function::Part(Part::DihedralGradients),
+        26,
+    );
+    let t = replay_file(
+        t,
+        b"neo_hookean_gradient.bin",
+        Function::Part(Part::NeoHookeanGradient),
+        24,
+    );
+    let t = replay_file(
+        t,
+        b"neo_hookean_hessian.bin",
+        Function::Part(Part::NeoHookeanHessian),
+        48,
+    );
+    let t = replay_file(
+        t,
+        b"strain_block_from_g.bin",
+        Function::Part(Part::StrainBlockFromG),
+        45,
+    );
+    let t = replay_file(
+        t,
+        b"strain_rows_of.bin",
+        Function::Part(Part::StrainRowsOf),
+        15,
+    );
+    let t = replay_file(
+        t,
+        b"strain_rows_dual.bin",
+        Function::Part(Part::StrainRowsDual),
+        15,
+    );
+    let t = replay_file(
+        t,
+        b"strain_matrix.bin",
+        Function::Part(Part::StrainMatrix),
+        15,
+    );
     replay_file(t, b"outer_sum.bin", Function::Part(Part::OuterSum), 33)
 }
 
@@ -50,9 +85,21 @@ pub(crate) fn agrees(f: Part, w: &[u32; 400]) -> bool
     ensures { λ r. ⌜ r ≡ spec.ofParts f (now (w .entry)) ⌝ }
 {
     match f {
-        Part::DihedralGradients => gradients_are(w, 13, gradients::dihedral::dihedral_gradients(four(w, 0), float(w, 12))),
-        Part::NeoHookeanGradient => energy_is(w, 8, hessian::gradient(float(w, 0), float(w, 1), &six(w, 2))),
-        Part::NeoHookeanHessian => flat_is(w, 12, &hessian::hessian(float(w, 0), float(w, 1), mat3(w, 2), float(w, 11))),
+        Part::DihedralGradients => gradients_are(
+            w,
+            13,
+            gradients::dihedral::dihedral_gradients(four(w, 0), float(w, 12)),
+        ),
+        Part::NeoHookeanGradient => energy_is(
+            w,
+            8,
+            hessian::gradient(float(w, 0), float(w, 1), &six(w, 2)),
+        ),
+        Part::NeoHookeanHessian => flat_is(
+            w,
+            12,
+            &hessian::hessian(float(w, 0), float(w, 1), mat3(w, 2), float(w, 11)),
+        ),
         Part::StrainBlockFromG => flat_is(w, 9, &tensor::strain_block_from_g(mat3(w, 0))),
         Part::StrainRowsOf => six_is(w, 9, &tensor::strain_rows_of(mat3(w, 0))),
         Part::StrainRowsDual => six_is(w, 9, &tensor::strain_rows_dual(mat3(w, 0))),

@@ -4,8 +4,8 @@ ghost use Rattle.replay.specs.Tallies.{Through};
 ghost use Rattle.replay_rows.specs.OfScalar as spec;
 ghost use Prim.Native.Nat.{_+_, _≤_};
 use crate::Function;
-use crate::points::Seen;
 use crate::points;
+use crate::points::Seen;
 use crate::replay_file;
 use places::Ids;
 use replay::Tally;
@@ -32,13 +32,43 @@ pub(crate) enum Scalar {
 pub(crate) fn all(t: Tally) -> Tally
     ensures { λ r. ⌜ Through spec.files t r ⌝ }
 {
-    let t = replay_file(t, b"scalar_compute_gradients.bin", Function::Scalar(Scalar::ComputeGradients), 93);
-    let t = replay_file(t, b"scalar_update.bin", Function::Scalar(Scalar::Update), 123);
-    let t = replay_file(t, b"scalar_warmstart.bin", Function::Scalar(Scalar::Warmstart), 92);
+    let t = replay_file(
+        t,
+        b"scalar_compute_gradients.bin",
+        Function::Scalar(Scalar::ComputeGradients),
+        93,
+    );
+    let t = replay_file(
+        t,
+        b"scalar_update.bin",
+        Function::Scalar(Scalar::Update),
+        123,
+    );
+    let t = replay_file(
+        t,
+        b"scalar_warmstart.bin",
+        Function::Scalar(Scalar::Warmstart),
+        92,
+    );
     let t = replay_file(t, b"scalar_solve.bin", Function::Scalar(Scalar::Solve), 138);
-    let t = replay_file(t, b"scalar_is_strained.bin", Function::Scalar(Scalar::IsStrained), 48);
-    let t = replay_file(t, b"scalar_main_step.bin", Function::Scalar(Scalar::MainStep), 141);
-    replay_file(t, b"scalar_resweep_step.bin", Function::Scalar(Scalar::ResweepStep), 138)
+    let t = replay_file(
+        t,
+        b"scalar_is_strained.bin",
+        Function::Scalar(Scalar::IsStrained),
+        48,
+    );
+    let t = replay_file(
+        t,
+        b"scalar_main_step.bin",
+        Function::Scalar(Scalar::MainStep),
+        141,
+    );
+    replay_file(
+        t,
+        b"scalar_resweep_step.bin",
+        Function::Scalar(Scalar::ResweepStep),
+        138,
+    )
 }
 
 // Whether the function's answer to the record's first words is what stands after them.

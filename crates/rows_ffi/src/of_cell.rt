@@ -1,7 +1,6 @@
 // The exports of the crate `cell`.
 use vector::Four;
 use vector::Mat3;
-
 ghost use mathlib.Core.Path.{_≡_};
 ghost use Rattle.cell.specs.Strain as strain;
 ghost use Rattle.cell.specs.Cell as spec;

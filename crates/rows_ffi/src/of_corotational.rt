@@ -2,7 +2,6 @@
 use cell::Solved;
 use corotational::CorotationalRow;
 use places::Holds;
-
 ghost use mathlib.Core.Path.{_≡_};
 ghost use Rattle.corotational.specs.Row as spec;
 

@@ -4,7 +4,6 @@ use energy::Energy;
 use neo_hookean::NeoHookeanRow;
 use places::Holds;
 use vector::Mat3;
-
 ghost use mathlib.Core.Path.{_≡_};
 ghost use Rattle.energy.specs.Hessian as hessian;
 ghost use Rattle.neo_hookean.specs.Row as spec;
@@ -17,7 +16,13 @@ pub extern "C" fn rt_neo_hookean_gradient(mu: f32, lambda: f32, strain: &[f32; 6
 }
 
 #[no_mangle]
-pub extern "C" fn rt_neo_hookean_hessian(mu: f32, lambda: f32, s: Mat3, kappa: f32, out: &mut [f32; 36])
+pub extern "C" fn rt_neo_hookean_hessian(
+    mu: f32,
+    lambda: f32,
+    s: Mat3,
+    kappa: f32,
+    out: &mut [f32; 36],
+)
     ensures { λ _. ⌜ now (out .exit) ≡ hessian.hessian mu lambda s kappa ⌝ }
 {
     *out = energy::hessian::hessian(mu, lambda, s, kappa);

@@ -4,7 +4,6 @@ use places::Holds;
 use scalar::SoftScalarConstraint;
 use scalar::Solved;
 use vector::Four;
-
 ghost use mathlib.Core.Path.{_≡_};
 ghost use Rattle.gradients.specs.Dihedral as dihedral;
 ghost use Rattle.gradients.specs.Gradients as gradients;
@@ -18,7 +17,12 @@ pub extern "C" fn rt_dihedral_gradients(pos: Four, rest: f32) -> Gradients
 }
 
 #[no_mangle]
-pub extern "C" fn rt_scalar_compute_gradients(kind: u32, pos: Four, grad: Four, rest: f32) -> Gradients
+pub extern "C" fn rt_scalar_compute_gradients(
+    kind: u32,
+    pos: Four,
+    grad: Four,
+    rest: f32,
+) -> Gradients
     ensures { λ t. ⌜ t ≡ gradients.computeGradients kind pos grad rest ⌝ }
 {
     gradients::gradient::compute_gradients(kind, pos, grad, rest)

@@ -76,8 +76,13 @@ module _ (s : List ℕ) (a : Answer) (e : a ≡ checkOf s) where
     ready n r en er =
         let v = in-range s frame in
         record {
-          h = head s; x = (rows s, points s); laid = laid-of s frame; size = v .as-many-points ∙ sym en; count = v .as-many-rows ∙ sym er;
-          few = omega (arith, v .few-points); fewR = omega (arith, v .few-rows)
+          h = head s;
+          x = (rows s, points s);
+          laid = laid-of s frame;
+          size = v .as-many-points ∙ sym en;
+          count = v .as-many-rows ∙ sym er;
+          few = omega (arith, v .few-points);
+          fewR = omega (arith, v .few-rows);
         }
 
     pub run-is : (s′ : List ℕ) (t : Turn) (k n r : ℕ) → t ≡ mainTurn s → k ≡ resweepsOf s → n ≡ countN s → r ≡ countR s → Ran t k n r s s′ → s′ ≡ leaves s

@@ -74,7 +74,7 @@ solved n off len s r i vel x s₁ s′ e f v g h t H ps D b X w =
     (t ∙ ap (λ (l : List ℕ). taken n l i x) (g ∙ anew w (solveRow vel))
     ∙ lost-here w i x (solveRow vel b) k
     ∙ (λ j. H ++ (flatten ((ap (λ (z : Four). alters lose (lossesOf n (namesOn b) (four z)) ps) y ∙ sym (solve-loses n b ps)) j)
-      ++ (D ++ ((ap (λ (z : Holds). solveRow z b) q ∙ sym (solve-is n b ps)) j ++ X)))))
+    ++ (D ++ ((ap (λ (z : Holds). solveRow z b) q ∙ sym (solve-is n b ps)) j ++ X)))))
 
 -- ---- steps from steps
 
@@ -88,8 +88,13 @@ module _ (n off len : ℕ) where
   -- a row stands there still
   pub stands : (f : List ℕ → Points → List ℕ × Points) (s s′ : List ℕ) → Standing n off len s → Stepped f n off len s s′ → Standing n off len s′
   stands f s s′ y z = record {
-    few = y .few; H = y .H; ps = (f (y .b) (y .ps)) .1; D = y .D; b = (f (y .b) (y .ps)) .0; X = y .X;
-    at = z (y .H) (y .ps) (y .D) (y .b) (y .X) (y .at)
+    few = y .few;
+    H = y .H;
+    ps = (f (y .b) (y .ps)) .1;
+    D = y .D;
+    b = (f (y .b) (y .ps)) .0;
+    X = y .X;
+    at = z (y .H) (y .ps) (y .D) (y .b) (y .X) (y .at);
   }
 
   pub after : (f g : List ℕ → Points → List ℕ × Points) (s s₁ s′ : List ℕ) → Stepped f n off len s s₁ → Stepped g n off len s₁ s′ → Stepped (f then g) n off len s s′

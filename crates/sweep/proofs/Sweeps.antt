@@ -55,8 +55,18 @@ pub record Sweeping (t : Turn) (n : ℕ) (h : List ℕ) (x : List (List ℕ) × 
 begins : (t : Turn) (n : ℕ) (s h : List ℕ) (x : List (List ℕ) × Points) → Laid s h x → length (x .1) ≡ n → Sweeping t n h x 0 s (26 + 30 * n)
 unfolding RowsSized flatten lay
 begins t n s h x l m = record {
-  done = []; rest = x .0; ps = x .1; bytes = l .bytes; head = l .head; many = m; sized = l .points; place = omega arith; count = omega arith;
-  done-sized = tt; rest-sized = l .rows; total = refl
+  done = [];
+  rest = x .0;
+  ps = x .1;
+  bytes = l .bytes;
+  head = l .head;
+  many = m;
+  sized = l .points;
+  place = omega arith;
+  count = omega arith;
+  done-sized = tt;
+  rest-sized = l .rows;
+  total = refl;
 }
 
 module _ {t : Turn} {n : ℕ} {h : List ℕ} {x : List (List ℕ) × Points} {i : ℕ} {s : List ℕ} {off : ℕ} (w : Sweeping t n h x i s off) where
@@ -65,7 +75,12 @@ module _ {t : Turn} {n : ℕ} {h : List ℕ} {x : List (List ℕ) × Points} {i 
   unfolding flatten RowsSized
   at-of b bs e len m = record {
     bytes = w .bytes ∙ ap (λ (q : List (List ℕ)). h ++ (flatten (w .ps) ++ (flatten (w .done) ++ flatten q))) e;
-    head = w .head; many = w .many; sized = w .sized; place = w .place; long = sym m; row = subst RowsSized e (w .rest-sized) .0;
+    head = w .head;
+    many = w .many;
+    sized = w .sized;
+    place = w .place;
+    long = sym m;
+    row = subst RowsSized e (w .rest-sized) .0;
   }
 
   len-of : (b : List ℕ) (bs : List (List ℕ)) → w .rest ≡ b ∷ bs → recordLength s off ≡ length b
@@ -74,7 +89,13 @@ module _ {t : Turn} {n : ℕ} {h : List ℕ} {x : List (List ℕ) × Points} {i 
   next-of : (rest : List (List ℕ)) → w .rest ≡ rest → i < length (x .0) → n ≤ 4096 → (len : ℕ) → len ≡ recordLength s off → Standing n off len s
   next-of [] e l few len m = absurd (omega (arith, w .count, ap length e))
   next-of (b ∷ bs) e l few len m = record {
-    few = few; H = h; ps = w .ps; D = flatten (w .done); b = b; X = flatten bs; at = at-of b bs e len (m ∙ len-of b bs e)
+    few = few;
+    H = h;
+    ps = w .ps;
+    D = flatten (w .done);
+    b = b;
+    X = flatten bs;
+    at = at-of b bs e len (m ∙ len-of b bs e);
   }
 
   -- six bytes and more are there
@@ -106,7 +127,7 @@ module _ {t : Turn} {n : ℕ} {h : List ℕ} {x : List (List ℕ) × Points} {i 
         done-sized = sized-snoc (w .done) (y .0) (w .done-sized) (a .row);
         rest-sized = subst RowsSized e (w .rest-sized) .1;
         total = (λ j. (snoc-rows (w .done) (y .0) ((sweep f bs (y .1)) .0) j, (sweep f bs (y .1)) .1))
-          ∙ ap {B = List (List ℕ) × Points} (λ (q : List (List ℕ)). (w .done ++ (sweep f q (w .ps)) .0, (sweep f q (w .ps)) .1)) (sym e) ∙ old;
+            ∙ ap {B = List (List ℕ) × Points} (λ (q : List (List ℕ)). (w .done ++ (sweep f q (w .ps)) .0, (sweep f q (w .ps)) .1)) (sym e) ∙ old;
       }
 
   ends-of : (rest : List (List ℕ)) → w .rest ≡ rest → length (x .0) ≤ i → Laid s h (sweep (stepOf n t) (x .0) (x .1))
@@ -119,7 +140,7 @@ module _ {t : Turn} {n : ℕ} {h : List ℕ} {x : List (List ℕ) × Points} {i 
       ∙ ap {B = List (List ℕ) × Points} (λ (q : List (List ℕ)). (w .done ++ (sweep f q (w .ps)) .0, (sweep f q (w .ps)) .1)) (sym e) ∙ w .total in
       subst (Laid s h) fin (record {
         bytes = w .bytes ∙ ap (λ (q : List (List ℕ)). h ++ (flatten (w .ps) ++ (flatten (w .done) ++ flatten q))) e
-          ∙ ap (λ (q : List ℕ). h ++ (flatten (w .ps) ++ q)) (append-nil (flatten (w .done)));
+            ∙ ap (λ (q : List ℕ). h ++ (flatten (w .ps) ++ q)) (append-nil (flatten (w .done)));
         head = w .head;
         rows = w .done-sized;
         points = w .sized;
@@ -168,8 +189,11 @@ points-many f z bs ps = same-length _ _ (sweep-points f z bs ps)
 
 pub swept-ready : (t : Turn) (n r : ℕ) (s s′ : List ℕ) → Ready n r s → Swept t n r s s′ → Ready n r s′
 swept-ready t n r s s′ y w = record {
-  h = y .h; x = sweep (stepOf n t) (y .x .0) (y .x .1); laid = w (y .h) (y .x) (y .laid) (y .size) (y .count);
+  h = y .h;
+  x = sweep (stepOf n t) (y .x .0) (y .x .1);
+  laid = w (y .h) (y .x) (y .laid) (y .size) (y .count);
   size = points-many (stepOf n t) (step-steady n t) (y .x .0) (y .x .1) ∙ y .size;
   count = rows-many (stepOf n t) (step-steady n t) (y .x .0) (y .x .1) ∙ y .count;
-  few = y .few; fewR = y .fewR
+  few = y .few;
+  fewR = y .fewR;
 }

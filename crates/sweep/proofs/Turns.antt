@@ -33,7 +33,11 @@ Again k n r s₀ i s = (h : List ℕ) (x : List (List ℕ) × Points) → Laid s
 module _ (k n r : ℕ) (s₀ : List ℕ) where
   pub again-begins : Again k n r s₀ 0 s₀
   again-begins h x l p q = record {
-    now-x = x; laid = l; size = p; count = q; total = ap (λ (j : ℕ). sweeps (replicate j (resweepStep n)) x) (sub-zero k)
+    now-x = x;
+    laid = l;
+    size = p;
+    count = q;
+    total = ap (λ (j : ℕ). sweeps (replicate j (resweepStep n)) x) (sub-zero k);
   }
 
   module _ (i : ℕ) (s : List ℕ) (a : Again k n r s₀ i s) where
