@@ -2,6 +2,7 @@
 pub mod Rest
 pub mod Firsts
 pub mod Runs
+pub mod Finites
 pub mod ByKind
 pub mod Shapes
 pub mod Values

@@ -1,57 +1,29 @@
--- `records::finite_run` meets its contract: it stops at the first refusal of the run. Assumes nothing.
-use Prim.Native.Nat.{_-_}
-use native.Mathlib.Omega.{arith}
+-- `records::finite_run` meets its contract: where the quick test passes there is no refusal in the run. Assumes nothing.
+use mathlib.Core.Path.{sym, _∙_}
 use borrow.Author.Needs.{needs}
-use Rattle.records.specs.Fields.{finite}
-use Rattle.records.proofs.Runs.{Running, begins, again, refuses, ends}
+use Rattle.records.proofs.Finites.{all-pass}
 use Rattle.records.proofs.finite_run.Statement.{statement}
 use Rattle.records.proofs.finite_run.Tie as tie
 
-abbrev Inv-loop : tie.InvT-loop
-Inv-loop b off k n p₀ i₀ p i = Running (finite b) off k n i p
+all-finite-requires : tie.Need-all-finite-requires
+all-finite-requires c κs = search needs
 
-abbrev μ-loop : tie.MeasureT-loop
-μ-loop b off k n p₀ i₀ p i = n - i
-
-loop-holds : tie.Need-loop-holds Inv-loop μ-loop
-loop-holds c = begins
-
-finite-requires : tie.Need-finite-requires Inv-loop μ-loop
-finite-requires c κs = omega arith
-
-returns : tie.Need-returns Inv-loop μ-loop
-returns c = search refuses
-
-add-p : tie.Need-add-p Inv-loop μ-loop
-add-p c = omega arith
-
-add-i : tie.Need-add-i Inv-loop μ-loop
-add-i c = omega arith
-
-loop-less : tie.Need-loop-less Inv-loop μ-loop
-loop-less c = omega arith
-
-loop-again : tie.Need-loop-again Inv-loop μ-loop
-loop-again c = search again
-
-refuse-if-requires : tie.Need-refuse-if-requires Inv-loop μ-loop
+refuse-if-requires : tie.Need-refuse-if-requires
 refuse-if-requires c κs = search needs
 
-returns-2 : tie.Need-returns-2 Inv-loop μ-loop
-returns-2 c = search ends
+returns : tie.Need-returns
+returns c =
+    let s = c .before .before .before .before in
+    c .refuse-if .ensures
+    ∙ all-pass (s .args .b .now) (s .args .off) (s .args .k) (s .args .n) (sym (c .before .before .all-finite .ensures) ∙ c .before .if1 .taken)
+
+finite-each-requires : tie.Need-finite-each-requires
+finite-each-requires c κs = search needs
+
+returns-2 : tie.Need-returns-2
+returns-2 c = search needs
 
 pub finite-run-spec : {M : Type 1} → statement M
 finite-run-spec =
     tie.close
-    (tie.spec
-    Inv-loop
-    μ-loop
-    loop-holds
-    finite-requires
-    returns
-    add-p
-    add-i
-    loop-less
-    loop-again
-    refuse-if-requires
-    returns-2)
+    (tie.spec all-finite-requires refuse-if-requires returns finite-each-requires returns-2)
