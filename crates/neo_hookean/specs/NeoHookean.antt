@@ -60,7 +60,7 @@ updateBlock coeffs im p k invA strain =
 
 -- ---- solve
 
--- M rate + dt g - λ, with M rate as it is
+-- M rate + dt g - λ, where pull is M rate
 unfoldable pub residual : List Float → List Float → List Float → List Float
 residual pull dtGrad impulse = sub6 (add6 pull dtGrad) impulse
 

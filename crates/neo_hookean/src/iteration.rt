@@ -14,7 +14,7 @@ use strain::sub6;
 use vector::Four;
 use vector::Mat3;
 
-// M rate + dt g - λ, with M rate as it is.
+// M rate + dt g - λ, where pull is M rate.
 pub fn residual(pull: &[f32; 6], dt_grad: &[f32; 6], impulse: &[f32; 6]) -> [f32; 6]
     ensures { λ r. ⌜ r ≡ spec.residual (now (pull .entry)) (now («dt_grad» .entry)) (now (impulse .entry)) ⌝ }
 {
