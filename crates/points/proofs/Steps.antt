@@ -8,14 +8,12 @@ use lib.Dec.{ltb, eqb}
 use lib.ListN.{length, take, drop}
 use lib.Seq.{drop-drop}
 use borrow.Author.Tests.{lt-ltb, le-ltb}
-use Rattle.records.specs.Layout.{pointEnd}
 use Rattle.vector.specs.Vector.{zeroVector}
 use Rattle.vector.specs.declared.Vec3.{Vec3}
 use Rattle.places.specs.declared.Held.{Held}
 use Rattle.rows.specs.Row.{nobody}
 use Rattle.floats.specs.Fields.{vec3At}
-use Rattle.stored.specs.Points.{lose}
-use Rattle.points.specs.InFrame.{onPart, placeOf, pointIn, heldIn, takenAt}
+use Rattle.points.specs.InFrame.{onPart, pointIn, heldIn}
 
 -- a part that was lent and came back as ys
 pub lent : (off n : ℕ) (s ys : List ℕ) (f : List ℕ → List ℕ) → ys ≡ f (take (off + n - off) (drop off s))
@@ -32,11 +30,3 @@ module _ (n : ℕ) (s : List ℕ) (id : ℕ) where
       → record { named = t; value = v } ≡ heldIn (λ p. vec3At p at) n s id
   unfolding heldIn
   held-out h at t v e g = simp (g, e, le-ltb id n h)
-
-  pub taken-in : id < n → (x : Vec3) (s′ : List ℕ) → s′ ≡ onPart (placeOf id) pointEnd (lose x) s → s′ ≡ takenAt n s id x
-  unfolding takenAt
-  taken-in h x s′ e = e ∙ simp (lt-ltb id n h)
-
-  pub taken-out : n ≤ id → (x : Vec3) → s ≡ takenAt n s id x
-  unfolding takenAt
-  taken-out h x = simp (le-ltb id n h)

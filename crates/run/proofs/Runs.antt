@@ -1,5 +1,5 @@
 -- An accepted frame is laid out from its own rows and points, and what the sweeps make of it is the run of the rules. Assumes nothing.
-use Prim.Native.Nat.{ℕ, _+_, _*_, _≤_}
+use Prim.Native.Nat.{ℕ, _+_, _*_, _≤_, _<_}
 use mathlib.Core.Path.{_≡_, refl, sym, ap, _∙_, subst}
 use mathlib.Core.Bool.{Bool, true, false, cond}
 use mathlib.Core.List.{List, [], _∷_, _++_}
@@ -23,7 +23,10 @@ use Rattle.stored.specs.Points.{Points, resweepStep}
 use Rattle.stored.specs.Run.{lay, swept, runOf, leaves}
 use Rattle.points.specs.InFrame.{Sized}
 use Rattle.row.specs.Widths.{rowLength}
-use Rattle.sweep.specs.Laid.{RowSized, RowsSized, stepOf, Laid, Ready, Ran}
+use Rattle.floats.proofs.Same.{Finite3}
+use Rattle.points.specs.Apart.{velocityAt}
+use Rattle.run.proofs.Calm.{points-finite}
+use Rattle.sweep.specs.Laid.{Calm, RowSized, RowsSized, stepOf, Laid, Ready, Ran}
 use Rattle.sweep.specs.declared.Turn.{Turn}
 use Rattle.run.specs.Start.{mainTurn}
 
@@ -31,12 +34,17 @@ use Rattle.run.specs.Start.{mainTurn}
 
 row-sized : (c : ℕ) (b : List ℕ) → Good Row c b → RowSized b
 unfolding rowLength
-row-sized c b g = record { size = g .size; wide = go (good-kind Row c b g) }
+row-sized c b g = record { size = g .size; wide = go (good-kind Row c b g); scalar = exact (good-kind Row c b g) }
   where
     go : Kind Row (le16 b 4) (le32 b 0) → rowLength (le16 b 4) ≤ length b
     go (a-scalar k n) = subst (λ (m : ℕ). rowLength m ≤ length b) (sym k) (omega (arith, g .size))
     go (a-corotational k n) = subst (λ (m : ℕ). rowLength m ≤ length b) (sym k) (omega (arith, g .size))
     go (a-neo-hookean k n) = subst (λ (m : ℕ). rowLength m ≤ length b) (sym k) (omega (arith, g .size))
+
+    exact : Kind Row (le16 b 4) (le32 b 0) → le16 b 4 ≡ 3 → length b ≡ 182
+    exact (a-scalar k n) e = omega (arith, g .size, n)
+    exact (a-corotational k n) e = absurd (omega (arith, k, e))
+    exact (a-neo-hookean k n) e = absurd (omega (arith, k, e))
 
 rows-sized : (c : ℕ) (bs : List (List ℕ)) → Chain Row c bs → RowsSized bs
 unfolding Chain RowsSized
@@ -84,6 +92,12 @@ module _ (s : List ℕ) (a : Answer) (e : a ≡ checkOf s) where
           few = omega (arith, v .few-points);
           fewR = omega (arith, v .few-rows);
         }
+
+    pub calm : (n : ℕ) → n ≡ countN s → Calm n s
+    calm n en i h =
+        let v = in-range s frame in
+        subst (λ (l : List ℕ). Finite3 l (velocityAt i)) (sym (frame .bytes))
+        (points-finite 0 (points s) (head s) (flatten (rows s)) 26 i (head-length (head s) (frame .good-head)) (frame .good-points) (omega (arith, v .as-many-points, en)))
 
     pub run-is : (s′ : List ℕ) (t : Turn) (k n r : ℕ) → t ≡ mainTurn s → k ≡ resweepsOf s → n ≡ countN s → r ≡ countR s → Ran t k n r s s′ → s′ ≡ leaves s
     unfolding leaves runOf swept mainTurn

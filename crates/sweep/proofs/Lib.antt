@@ -3,3 +3,4 @@ pub mod Rooms
 pub mod Steps
 pub mod Sweeps
 pub mod Turns
+pub mod Apart

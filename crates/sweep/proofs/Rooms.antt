@@ -40,6 +40,9 @@ module _ {n off len : ℕ} {H : List ℕ} {ps : Points} {D b X s : List ℕ} (w 
       ap (4 +_) (ap (le32 s) (sym (add-zero off)) ∙ ap (λ (l : List ℕ). le32 l (off + 0)) grouped ∙ le32-middle (H ++ (flatten ps ++ D)) b X off front 0 (omega (arith, long-here)))
       ∙ sym (w .row .size) ∙ w .long
 
+  pub scalar-here : le16 s (off + 4) ≡ 3 → recordLength s off ≡ 182
+  scalar-here k = length-here ∙ sym (w .long) ∙ w .row .scalar (sym (le16-here 4 (omega (arith, long-here))) ∙ k)
+
   pub record-here : recordAt s off ≡ b
   record-here = ap (λ (m : ℕ). part off m s) length-here ∙ row-here
 
@@ -84,6 +87,7 @@ pub sized-alike : (b c : List ℕ) → Alike b c → RowSized c → RowSized b
 sized-alike b c a z = record {
   size = a .size ∙ z .size ∙ ap (4 +_) (sym (alike-length b c a));
   wide = subst (λ (m : ℕ). rowLength m ≤ length b) (sym (alike-kind b c a)) (subst (λ (l : ℕ). rowLength (le16 c 4) ≤ l) (sym (a .size)) (z .wide));
+  scalar = λ k. a .size ∙ z .scalar (sym (alike-kind b c a) ∙ k);
 }
 
 pub sized-same : (ps qs : Points) → Same ps qs → Sized qs → Sized ps

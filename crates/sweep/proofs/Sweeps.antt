@@ -5,7 +5,7 @@ use mathlib.Core.Bool.{Bool, true, false, cond}
 use mathlib.Core.List.{List, [], _∷_, _++_, append-assoc, append-nil}
 use native.Mathlib.Omega.{arith}
 use lib.ListN.{length, length-append}
-use Rattle.bytes.specs.Bytes.{le32}
+use Rattle.bytes.specs.Bytes.{le16, le32}
 use Rattle.records.specs.Records.{recordLength, flatten}
 use Rattle.relisting.specs.Steps.{sweep}
 use Rattle.stored.specs.Points.{Points, mainStep, resweepStep}
@@ -14,7 +14,7 @@ use Rattle.stored.specs.Sizes.{Steady, main-steady, resweep-steady, sweep-rows,
 use Rattle.points.specs.InFrame.{Sized}
 use Rattle.sweep.specs.Laid.{RowSized, RowsSized, At, Standing, Stepped, stepOf, Laid, Ready, Swept}
 use Rattle.sweep.specs.declared.Turn.{Turn}
-use Rattle.sweep.proofs.Rooms.{length-here, size-here}
+use Rattle.sweep.proofs.Rooms.{long-here, length-here, size-here, scalar-here}
 
 -- ---- lists of rows
 
@@ -103,6 +103,14 @@ module _ {t : Turn} {n : ℕ} {h : List ℕ} {x : List (List ℕ) × Points} {i 
   room-of [] e l = absurd (omega (arith, w .count, ap length e))
   room-of (b ∷ bs) e l = let z = at-of b bs e (length b) refl in omega (arith, size-here z, length-here z)
 
+  long-of : (rest : List (List ℕ)) → w .rest ≡ rest → i < length (x .0) → 182 ≤ recordLength s off
+  long-of [] e l = absurd (omega (arith, w .count, ap length e))
+  long-of (b ∷ bs) e l = let z = at-of b bs e (length b) refl in omega (arith, long-here z, length-here z)
+
+  scalar-of : (rest : List (List ℕ)) → w .rest ≡ rest → i < length (x .0) → le16 s (off + 4) ≡ 3 → recordLength s off ≡ 182
+  scalar-of [] e l k = absurd (omega (arith, w .count, ap length e))
+  scalar-of (b ∷ bs) e l k = scalar-here (at-of b bs e (length b) refl) k
+
   again-of : (rest : List (List ℕ)) → w .rest ≡ rest → i < length (x .0) → (len : ℕ) (s′ : List ℕ) → len ≡ recordLength s off → Stepped (stepOf n t) n off len s s′
       → Sweeping t n h x (i + 1) s′ (off + len)
   unfolding flatten RowsSized
@@ -160,8 +168,17 @@ module _ (t : Turn) (n r : ℕ) (s₀ : List ℕ) where
       the : Sweeping t n (y .h) (y .x) i s off
       the = g (y .h) (y .x) (y .laid) (y .size) (y .count)
 
+      pub going-behind : 26 + 30 * n ≤ off
+      going-behind = omega (arith, the .place)
+
       pub going-room : i < r → off + recordLength s off ≤ length s
       going-room l = room-of the (the .rest) refl (omega (arith, y .count))
+
+      pub going-long : i < r → 182 ≤ recordLength s off
+      going-long l = long-of the (the .rest) refl (omega (arith, y .count))
+
+      pub going-scalar : i < r → le16 s (off + 4) ≡ 3 → recordLength s off ≡ 182
+      going-scalar l k = scalar-of the (the .rest) refl (omega (arith, y .count)) k
 
       pub going-stands : i < r → (len : ℕ) → len ≡ recordLength s off → Standing n off len s
       going-stands l len m = next-of the (the .rest) refl (omega (arith, y .count)) (y .few) len m

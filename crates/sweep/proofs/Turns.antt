@@ -1,13 +1,16 @@
 -- Laws of the loop over resweeps, and of a main sweep and the resweeps behind it. Assumes nothing.
-use Prim.Native.Nat.{ℕ, zero, suc, _+_, _-_, _≤_, _<_}
+use Prim.Native.Nat.{ℕ, zero, suc, _+_, _*_, _-_, _≤_, _<_}
 use mathlib.Core.Path.{_≡_, refl, sym, ap, _∙_, subst}
 use mathlib.Core.Bool.{Bool, true, false, cond}
-use mathlib.Core.List.{List}
+use mathlib.Core.List.{List, _++_}
 use native.Mathlib.Omega.{arith}
 use native.Mathlib.Nat.{sub-zero}
-use lib.ListN.{length, replicate}
+use lib.ListN.{length, replicate, length-append}
 use Rattle.records.proofs.Rest.{sub-turn}
+use Rattle.records.specs.Records.{flatten}
 use Rattle.relisting.specs.Steps.{sweep, sweeps, run}
+use Rattle.stored.specs.Run.{lay}
+use Rattle.points.proofs.Bridge.{length-points}
 use Rattle.stored.specs.Points.{Points, resweepStep, mainStep}
 use Rattle.stored.specs.Sizes.{Steady, resweep-steady}
 use Rattle.sweep.specs.Laid.{stepOf, Laid, Ready, Swept, Reswept, Ran}
@@ -68,3 +71,13 @@ both-sweeps t k n r s s′ s″ w v h x l p q =
     v h (sweep (stepOf n t) (x .0) (x .1)) (w h x l p q)
     (points-many (stepOf n t) (step-steady n t) (x .0) (x .1) ∙ p)
     (rows-many (stepOf n t) (step-steady n t) (x .0) (x .1) ∙ q)
+
+-- from the frame as it was, and to the one that is put together again
+pub all-swept : (t : Turn) (k n r : ℕ) (s₀ M₀ M₁ M₂ s₃ : List ℕ) → M₀ ≡ s₀ → Swept t n r M₀ M₁ → Reswept k n r M₁ M₂ → s₃ ≡ M₂ → Ran t k n r s₀ s₃
+all-swept t k n r s₀ M₀ M₁ M₂ s₃ e w v f =
+    subst (λ (a : List ℕ). Ran t k n r a s₃) e (subst (λ (b : List ℕ). Ran t k n r M₀ b) (sym f) (both-sweeps t k n r M₀ M₁ M₂ w v))
+
+pub ready-long : (n r : ℕ) (s : List ℕ) → Ready n r s → 26 + 30 * n ≤ length s
+unfolding lay
+ready-long n r s y =
+    omega (arith, ap length (y .laid .bytes), length-append (y .h) (flatten (y .x .1) ++ flatten (y .x .0)), length-append (flatten (y .x .1)) (flatten (y .x .0)), length-points (y .x .1) (y .laid .points), y .laid .head, y .size)

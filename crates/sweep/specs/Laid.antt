@@ -10,14 +10,17 @@ use Rattle.records.specs.Records.{recordLength, flatten}
 use Rattle.relisting.specs.Steps.{sweep, sweeps, run}
 use Rattle.stored.specs.Points.{Points, mainStep, resweepStep}
 use Rattle.stored.specs.Run.{lay}
+use Rattle.floats.proofs.Same.{Finite3}
 use Rattle.points.specs.InFrame.{Sized}
+use Rattle.points.specs.Apart.{velocityAt}
 use Rattle.row.specs.Widths.{rowLength}
 use Rattle.sweep.specs.declared.Turn.{Turn}
 
--- a row's record is as long as it says, and has room for the fields of its kind
+-- a row's record is as long as it says, and has room for the fields of its kind; a scalar row's has no more
 pub record RowSized (b : List ℕ) : Type 0 where
   pub size : length b ≡ recordLength b 0
   pub wide : rowLength (le16 b 4) ≤ length b
+  pub scalar : le16 b 4 ≡ 3 → length b ≡ 182
 
 unfoldable pub RowsSized : List (List ℕ) → Type 0
 RowsSized [] = Unit
@@ -83,3 +86,7 @@ Reswept k n r = Made (sweeps (replicate k (resweepStep n))) n r
 
 abbrev pub Ran : Turn → ℕ → ℕ → ℕ → List ℕ → List ℕ → Type 0
 Ran t k n r = Made (λ x. run (stepOf n t) (resweepStep n) k (x .0) (x .1)) n r
+
+-- the velocities of the n points are finite, as a run finds them
+abbrev pub Calm : ℕ → List ℕ → Type 0
+Calm n s = (i : ℕ) → i < n → Finite3 s (velocityAt i)

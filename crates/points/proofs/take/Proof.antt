@@ -1,5 +1,5 @@
 -- `points::take` meets its contract. Assumes nothing.
-use Rattle.points.specs.InFrame.{taken}
+use Rattle.points.specs.Apart.{lost}
 use borrow.Author.Needs.{needs}
 use Rattle.points.proofs.take.Statement.{statement}
 use Rattle.points.proofs.take.Tie as tie
@@ -19,20 +19,11 @@ take-at-requires-3 c κs = search needs
 take-at-requires-4 : tie.Need-take-at-requires-4
 take-at-requires-4 c κs = search needs
 
-same-length : tie.Need-same-length
-same-length c = search needs
-
 returns : tie.Need-returns
-unfolding taken
+unfolding lost
 returns c = cc
 
 pub take-spec : {M : Type 1} → statement M
 take-spec =
     tie.close
-    (tie.spec
-    take-at-requires
-    take-at-requires-2
-    take-at-requires-3
-    take-at-requires-4
-    same-length
-    returns)
+    (tie.spec take-at-requires take-at-requires-2 take-at-requires-3 take-at-requires-4 returns)

@@ -1,6 +1,6 @@
 -- `run::run` meets its contract. Assumes nothing.
 use native.Mathlib.Omega.{arith}
-use Rattle.run.proofs.Runs.{long, ready, run-is, not-run, main-first}
+use Rattle.run.proofs.Runs.{long, ready, calm, run-is, not-run, main-first}
 use borrow.Author.Needs.{needs}
 use Rattle.run.proofs.run.Statement.{statement}
 use Rattle.run.proofs.run.Tie as tie
@@ -40,7 +40,7 @@ main-turn-requires : tie.Need-main-turn-requires
 main-turn-requires c κs = long _ _ (c .before .before .before .before .before .before .before .before .before .check .ensures) (c .before .before .before .before .before .before .before .if1 .left)
 
 sweep-all-requires : tie.Need-sweep-all-requires
-sweep-all-requires c κs = (ready _ _ (c .before .before .before .before .before .before .before .before .before .before .before .check .ensures) (c .before .before .before .before .before .before .before .before .before .if1 .left) _ _ (c .before .before .before .before .before .before .before .get-u32 .ensures) (c .before .before .before .before .before .get-u322 .ensures), main-first _ _ (c .before .main-turn .ensures))
+sweep-all-requires c κs = (ready _ _ (c .before .before .before .before .before .before .before .before .before .before .before .check .ensures) (c .before .before .before .before .before .before .before .before .before .if1 .left) _ _ (c .before .before .before .before .before .before .before .get-u32 .ensures) (c .before .before .before .before .before .get-u322 .ensures), (calm _ _ (c .before .before .before .before .before .before .before .before .before .before .before .check .ensures) (c .before .before .before .before .before .before .before .before .before .if1 .left) _ (c .before .before .before .before .before .before .before .get-u32 .ensures), main-first _ _ (c .before .main-turn .ensures)))
 
 same-length-2 : tie.Need-same-length-2
 same-length-2 c = search needs

@@ -13,16 +13,16 @@ update-if-requires : tie.Need-update-if-requires
 update-if-requires c κs = search needs
 
 warm-if-requires : tie.Need-warm-if-requires
-warm-if-requires c κs = stands _ _ _ _ _ _ (c .before .before .before .before .before .before .pre) (c .before .before .before .update-if .ensures)
+warm-if-requires c κs = (stands _ _ _ _ _ _ (c .before .before .before .before .before .before .before .before .pre .0) (c .before .before .before .before .update-if .ensures), c .before .before .before .before .before .before .before .before .pre .1)
 
 solve-at-requires : tie.Need-solve-at-requires
-solve-at-requires c κs = stands _ _ _ _ _ _ (stands _ _ _ _ _ _ (c .before .before .before .before .before .before .before .before .before .before .pre) (c .before .before .before .before .before .before .before .update-if .ensures)) (c .before .before .before .warm-if .ensures)
+solve-at-requires c κs = (stands _ _ _ _ _ _ (stands _ _ _ _ _ _ (c .before .before .before .before .before .before .before .before .before .before .before .before .before .pre .0) (c .before .before .before .before .before .before .before .before .before .update-if .ensures)) (c .before .before .before .before .warm-if .ensures .0), c .before .before .before .before .warm-if .ensures .1)
 
 same-length : tie.Need-same-length
 same-length c = search needs
 
 returns : tie.Need-returns
-returns c = after _ _ _ _ _ _ _ _ (after _ _ _ _ _ _ _ _ (c .before .before .before .before .before .before .before .before .before .before .update-if .ensures) (c .before .before .before .before .before .before .warm-if .ensures)) (c .before .before .solve-at .ensures)
+returns c = (after _ _ _ _ _ _ _ _ (after _ _ _ _ _ _ _ _ (c .before .before .before .before .before .before .before .before .before .before .before .before .update-if .ensures) (c .before .before .before .before .before .before .before .warm-if .ensures .0)) (c .before .before .solve-at .ensures .0), c .before .before .solve-at .ensures .1)
 
 pub main-step-spec : {M : Type 1} → statement M
 main-step-spec =

@@ -13,6 +13,9 @@ use Rattle.row.specs.Widths.{rowLength}
 use Rattle.points.proofs.Steps.{lent}
 use Rattle.stored.specs.Phases.{updateRow, warmRow, solveRow}
 use Rattle.sweep.proofs.Steps.{solved}
+use Rattle.sweep.proofs.Apart.{room-apart, lent-apart, updated-apart, warmed-apart, solved-apart}
+use Rattle.points.proofs.Moved.{fit-lost}
+use Rattle.points.specs.Apart.{Fit}
 use borrow.Author.Needs.{needs}
 use Rattle.sweep.proofs.solve_at.Statement.{statement}
 use Rattle.sweep.proofs.solve_at.Tie as tie
@@ -25,16 +28,16 @@ use Rattle.row.proofs.names_at.Reads as names-at-reads
 use Rattle.row.proofs.solve_row.Reads as solve-row-reads
 
 record-at-requires : tie.Need-record-at-requires
-record-at-requires c κs = omega (arith, room (c .before .before .pre) .said)
+record-at-requires c κs = omega (arith, room-apart _ _ (c .before .before .pre .0) .said)
 
 names-at-requires : tie.Need-names-at-requires
-names-at-requires c κs = subst (λ (r : List ℕ). rowLength (le16 r 4) ≤ length r) (sym (c .record-at .ensures .0)) (room (c .before .before .before .pre) .wide)
+names-at-requires c κs = subst (λ (r : List ℕ). rowLength (le16 r 4) ≤ length r) (sym (c .record-at .ensures .0)) (room-apart _ _ (c .before .before .before .pre .0) .wide)
 
 velocities-requires : tie.Need-velocities-requires
-velocities-requires c κs = (omega (arith, room (c .before .before .before .before .before .pre) .few), omega (arith, room (c .before .before .before .before .before .pre) .points))
+velocities-requires c κs = omega (arith, room-apart _ _ (c .before .before .before .before .before .pre .0) .few)
 
 add-e : tie.Need-add-e
-add-e c = omega (arith, room (c .before .before .before .before .before .before .pre) .end)
+add-e c = omega (arith, room-apart _ _ (c .before .before .before .before .before .before .pre .0) .end)
 
 sub-solve-row : tie.Need-sub-solve-row
 sub-solve-row c = search needs
@@ -43,20 +46,20 @@ part-solve-row-start : tie.Need-part-solve-row-start
 part-solve-row-start c = search needs
 
 part-solve-row-end : tie.Need-part-solve-row-end
-part-solve-row-end c = omega (arith, room (c .before .before .before .before .before .before .pre) .end)
+part-solve-row-end c = omega (arith, room-apart _ _ (c .before .before .before .before .before .before .pre .0) .end)
 
 solve-row-requires : tie.Need-solve-row-requires
-solve-row-requires c κs = lent-room (c .before .before .before .before .before .before .before .pre)
+solve-row-requires c κs = lent-apart _ _ (c .before .before .before .before .before .before .before .pre .0)
 
 take-requires : tie.Need-take-requires
-take-requires c κs = (omega (arith, room (c .before .before .before .before .before .before .before .before .before .before .before .pre) .few), omega (arith, room (c .before .before .before .before .before .before .before .before .before .before .before .pre) .points))
+take-requires c κs = omega (arith, room-apart _ _ (c .before .before .before .before .before .before .before .before .before .before .before .pre .0) .few)
 
 same-length : tie.Need-same-length
 same-length c = search needs
 
 returns : tie.Need-returns
-returns c = let a = c .before .before .before .before .before .before .before .before .before .before .before .before .before .before .args in
-    solved _ _ _ _ _ _ _ _ _ _ (c .before .before .before .before .before .before .before .before .before .before .before .record-at .ensures .0) (c .before .before .before .before .before .before .before .before .before .before .names-at .ensures) (c .before .before .before .before .before .before .before .before .velocities .ensures) (lent (a .off) (a .len) _ _ (solveRow _) (c .before .before .before .before .before .before .solve-row .ensures .0)) (c .before .before .before .before .before .before .solve-row .ensures .1 ∙ simp add-sub-cancel-left) (c .before .before .take .ensures)
+returns c = let a = c .before .before .before .before .before .before .before .before .before .before .before .before .args in
+    (solved-apart _ _ (c .before .before .before .before .before .before .before .before .before .before .before .before .pre .0) _ _ (c .before .before .before .before .before .before .before .before .before .record-at .ensures .0) (c .before .before .before .before .before .before .before .before .names-at .ensures) (c .before .before .before .before .before .before .before .before .before .before .before .before .pre .1) _ (omega (arith, room-apart _ _ (c .before .before .before .before .before .before .before .before .before .before .before .before .pre .0) .points)) _ _ (c .take .ensures) _ (c .before .before .before .before .before .before .velocities .ensures) (lent (a .off) (a .len) _ _ (solveRow _) (c .before .before .before .before .solve-row .ensures .0)) (c .before .before .before .before .solve-row .ensures .1 ∙ simp add-sub-cancel-left), subst Fit (sym (c .take .ensures)) (fit-lost _ _ _ _ (c .before .before .before .before .before .before .before .before .before .before .before .before .pre .1)))
 
 pub solve-at-spec : {M : Type 1} → statement M
 solve-at-spec =

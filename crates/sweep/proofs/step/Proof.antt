@@ -18,13 +18,13 @@ same-length : tie.Need-same-length
 same-length c = search needs
 
 returns : tie.Need-returns
-returns c = turned _ _ _ (c .before .before .before .before .before .before .args .t) _ _ (c .before .before .before .before .if1 .taken) (c .before .before .resweep-step .ensures)
+returns c = (turned _ _ _ (c .before .before .before .before .before .before .before .args .t) _ _ (c .before .before .before .before .before .if1 .taken) (c .before .before .resweep-step .ensures .0), c .before .before .resweep-step .ensures .1)
 
 same-length-2 : tie.Need-same-length-2
 same-length-2 c = search needs
 
 returns-2 : tie.Need-returns-2
-returns-2 c = main-turned _ _ _ (c .before .before .before .before .before .before .args .t) _ _ (c .before .before .before .before .if1 .left) (c .before .before .main-step .ensures)
+returns-2 c = (main-turned _ _ _ (c .before .before .before .before .before .before .before .args .t) _ _ (c .before .before .before .before .before .if1 .left) (c .before .before .main-step .ensures .0), c .before .before .main-step .ensures .1)
 
 pub step-spec : {M : Type 1} → statement M
 step-spec =

@@ -1,4 +1,5 @@
 -- `sweep::sweep` meets its contract. Assumes nothing.
+use Rattle.sweep.proofs.Apart.{turn-room, turn-long, turn-scalar, turn-says}
 use borrow.Author.Needs.{needs}
 -- `sweep::sweep` meets its contract. Assumes nothing.
 use native.Mathlib.Omega.{arith}
@@ -6,57 +7,52 @@ use Prim.Native.Nat.{_+_, _-_}
 use mathlib.Core.Path.{_≡_, refl, ap}
 use lib.ListN.{length}
 use Rattle.sweep.proofs.Sweeps.{Going, going-begins, going-room, going-stands, going-again, going-ends}
+use Rattle.points.specs.Apart.{moved, Fit}
 use Rattle.sweep.proofs.sweep.Statement.{statement}
 use Rattle.sweep.proofs.sweep.Tie as tie
 use Rattle.sweep.proofs.sweep.Reads as reads
 use Rattle.sweep.proofs.sweep.Lts as lts
-use Rattle.bytes.proofs.get_u32.Reads as get-u32-reads
+use Rattle.sweep.proofs.length_at.Reads as length-at-reads
 use Rattle.sweep.proofs.step.Reads as step-reads
 
 abbrev Inv-loop : tie.InvT-loop
-Inv-loop t n r s₀ off₀ i₀ s off i = Going t n r s₀ i s off × (length s ≡ length s₀)
+Inv-loop t n r s₀ v₀ off₀ i₀ s v off i = Going t n r (moved n v₀ s₀) i (moved n v s) off × (Fit v × (length s ≡ length s₀))
 
 abbrev μ-loop : tie.MeasureT-loop
-μ-loop t n r s₀ off₀ i₀ s off i = r - i
+μ-loop t n r s₀ v₀ off₀ i₀ s v off i = r - i
 
 mul-off : tie.Need-mul-off Inv-loop μ-loop
-mul-off c = omega (arith, c .before .pre .few)
+mul-off c = omega (arith, c .before .pre .0 .few)
 
 add-off : tie.Need-add-off Inv-loop μ-loop
-add-off c = omega (arith, c .before .pre .few)
+add-off c = omega (arith, c .before .pre .0 .few)
 
 loop-holds : tie.Need-loop-holds Inv-loop μ-loop
-loop-holds c = (going-begins _ _ _ _, refl)
+loop-holds c = (going-begins _ _ _ _, (c .before .pre .1, refl))
 
-get-u32-requires : tie.Need-get-u32-requires Inv-loop μ-loop
-get-u32-requires c κs = omega (arith, going-room _ _ _ _ _ _ _ (c .before .before .loop .inv .0) (c .before .before .before .before .pre) (omega arith))
-
-cast-len : tie.Need-cast-len Inv-loop μ-loop
-cast-len c = omega arith
-
-add-len : tie.Need-add-len Inv-loop μ-loop
-add-len c = omega arith
+length-at-requires : tie.Need-length-at-requires Inv-loop μ-loop
+length-at-requires c κs = (omega (arith, turn-room _ _ _ _ _ _ _ _ (c .before .before .loop .inv .0) (c .before .before .before .before .pre .0) (omega arith), turn-long _ _ _ _ _ _ _ _ (c .before .before .loop .inv .0) (c .before .before .before .before .pre .0) (omega arith)), turn-scalar _ _ _ _ _ _ _ _ (c .before .before .loop .inv .0) (c .before .before .before .before .pre .0) (omega arith))
 
 step-requires : tie.Need-step-requires Inv-loop μ-loop
-step-requires c κs = going-stands _ _ _ _ _ _ _ (c .before .before .before .before .loop .inv .0) (c .before .before .before .before .before .before .pre) (omega arith) _ (ap (4 +_) (c .before .get-u32 .ensures))
+step-requires c κs = (going-stands _ _ _ _ _ _ _ (c .before .before .before .before .before .loop .inv .0) (c .before .before .before .before .before .before .before .pre .0) (omega arith) _ (turn-says _ _ _ _ _ _ _ _ (c .before .before .before .before .before .loop .inv .0) (c .before .before .before .before .before .before .before .pre .0) (omega arith) _ (c .before .before .length-at .ensures)), c .before .before .before .before .before .loop .inv .1 .0)
 
 add-off-2 : tie.Need-add-off-2 Inv-loop μ-loop
-add-off-2 c = omega (arith, going-room _ _ _ _ _ _ _ (c .before .before .before .before .before .before .before .loop .inv .0) (c .before .before .before .before .before .before .before .before .before .pre) (omega arith), c .before .before .before .before .get-u32 .ensures)
+add-off-2 c = omega (arith, turn-room _ _ _ _ _ _ _ _ (c .before .before .before .before .before .before .before .before .loop .inv .0) (c .before .before .before .before .before .before .before .before .before .before .pre .0) (omega arith), c .before .before .before .before .before .length-at .ensures)
 
 add-i : tie.Need-add-i Inv-loop μ-loop
-add-i c = omega (arith, c .before .before .before .before .before .before .before .before .before .pre .fewR)
+add-i c = omega (arith, c .before .before .before .before .before .before .before .before .before .before .pre .0 .fewR)
 
 loop-less : tie.Need-loop-less Inv-loop μ-loop
 loop-less c = omega arith
 
 loop-again : tie.Need-loop-again Inv-loop μ-loop
-loop-again c = (going-again _ _ _ _ _ _ _ (c .before .before .before .before .before .before .before .loop .inv .0) (omega arith) _ _ (ap (4 +_) (c .before .before .before .before .get-u32 .ensures)) (c .before .before .step .ensures), omega arith)
+loop-again c = (going-again _ _ _ _ _ _ _ (c .before .before .before .before .before .before .before .before .loop .inv .0) (omega arith) _ _ (turn-says _ _ _ _ _ _ _ _ (c .before .before .before .before .before .before .before .before .loop .inv .0) (c .before .before .before .before .before .before .before .before .before .before .pre .0) (omega arith) _ (c .before .before .before .before .before .length-at .ensures)) (c .before .before .step .ensures .0), (c .before .before .step .ensures .1, omega arith))
 
 same-length : tie.Need-same-length Inv-loop μ-loop
 same-length c = search needs
 
 returns : tie.Need-returns Inv-loop μ-loop
-returns c = going-ends _ _ _ _ _ _ _ (c .before .loop .inv .0) (omega arith)
+returns c = (going-ends _ _ _ _ _ _ _ (c .before .loop .inv .0) (omega arith), c .before .loop .inv .1 .0)
 
 pub sweep-spec : {M : Type 1} → statement M
 sweep-spec =
@@ -67,9 +63,7 @@ sweep-spec =
     mul-off
     add-off
     loop-holds
-    get-u32-requires
-    cast-len
-    add-len
+    length-at-requires
     step-requires
     add-off-2
     add-i

@@ -1,26 +1,45 @@
 -- `sweep::sweep_all` meets its contract. Assumes nothing.
-use mathlib.Core.Path.{refl}
-use borrow.Author.Needs.{needs}
+use native.Mathlib.Omega.{arith}
+use mathlib.Core.Path.{refl, sym, subst}
+use Rattle.points.proofs.Moved.{none-moved, fit-same}
+use Rattle.sweep.specs.Laid.{Ready}
 use Rattle.sweep.proofs.Sweeps.{swept-ready}
-use Rattle.sweep.proofs.Turns.{both-sweeps}
+use Rattle.sweep.proofs.Turns.{all-swept, ready-long}
+use borrow.Author.Needs.{needs}
 use Rattle.sweep.proofs.sweep_all.Statement.{statement}
 use Rattle.sweep.proofs.sweep_all.Tie as tie
 use Rattle.sweep.proofs.sweep_all.Reads as reads
 use Rattle.sweep.proofs.sweep_all.Lts as lts
-use Rattle.sweep.proofs.sweep.Reads as sweep-reads
+use Rattle.points.proofs.gather.Reads as gather-reads
+use Rattle.points.proofs.scatter.Reads as scatter-reads
 use Rattle.sweep.proofs.resweeps.Reads as resweeps-reads
+use Rattle.sweep.proofs.sweep.Reads as sweep-reads
+
+gather-requires : tie.Need-gather-requires
+gather-requires c κs = (c .before .before .before .pre .0 .few, (ready-long _ _ _ (c .before .before .before .pre .0), fit-same 0))
 
 sweep-requires : tie.Need-sweep-requires
-sweep-requires c κs = c .before .before .pre .0
+sweep-requires c κs = (subst (Ready _ _) (sym (none-moved _ _ _ (λ j. omega (arith, c .before .before .before .before .before .slice-known .given j)) (c .before .before .before .before .before .before .pre .1 .0) (c .before .before .gather .ensures .0))) (c .before .before .before .before .before .before .pre .0), c .before .before .gather .ensures .1)
 
 resweeps-requires : tie.Need-resweeps-requires
-resweeps-requires c κs = (swept-ready (c .before .before .before .before .before .before .args .t) _ _ _ _ (c .before .before .before .before .before .before .pre .0) (c .before .before .before .sweep .ensures), refl)
+resweeps-requires c κs = ((swept-ready (c .before .before .before .before .before .before .before .before .before .before .before .args .t) _ _ _ _ (subst (Ready _ _) (sym (none-moved _ _ _ (λ j. omega (arith, c .before .before .before .before .before .before .before .before .before .before .slice-known .given j)) (c .before .before .before .before .before .before .before .before .before .before .before .pre .1 .0) (c .before .before .before .before .before .before .before .gather .ensures .0))) (c .before .before .before .before .before .before .before .before .before .before .before .pre .0)) (c .before .before .before .before .sweep .ensures .0), c .before .before .before .before .sweep .ensures .1), refl)
+
+scatter-requires : tie.Need-scatter-requires
+scatter-requires c κs = (c .before .before .before .before .before .before .before .before .before .before .before .before .before .before .before .before .pre .0 .few, omega (arith, ready-long _ _ _ (c .before .before .before .before .before .before .before .before .before .before .before .before .before .before .before .before .pre .0)))
 
 same-length : tie.Need-same-length
 same-length c = search needs
 
 returns : tie.Need-returns
-returns c = both-sweeps (c .before .before .before .before .before .before .before .before .before .args .t) (c .before .before .before .before .before .before .before .before .before .args .k) _ _ _ _ _ (c .before .before .before .before .before .before .sweep .ensures) (c .before .before .resweeps .ensures)
+returns c = all-swept (c .before .before .before .before .before .before .before .before .before .before .before .before .before .before .before .before .before .before .before .args .t) (c .before .before .before .before .before .before .before .before .before .before .before .before .before .before .before .before .before .before .before .args .k) _ _ _ _ _ _ _ (none-moved _ _ _ (λ j. omega (arith, c .before .before .before .before .before .before .before .before .before .before .before .before .before .before .before .before .before .before .slice-known .given j)) (c .before .before .before .before .before .before .before .before .before .before .before .before .before .before .before .before .before .before .before .pre .1 .0) (c .before .before .before .before .before .before .before .before .before .before .before .before .before .before .before .gather .ensures .0)) (c .before .before .before .before .before .before .before .before .before .before .before .before .sweep .ensures .0) (c .before .before .before .before .before .before .before .resweeps .ensures .0) (c .before .before .scatter .ensures)
 
 pub sweep-all-spec : {M : Type 1} → statement M
-sweep-all-spec = tie.close (tie.spec sweep-requires resweeps-requires same-length returns)
+sweep-all-spec =
+    tie.close
+    (tie.spec
+    gather-requires
+    sweep-requires
+    resweeps-requires
+    scatter-requires
+    same-length
+    returns)

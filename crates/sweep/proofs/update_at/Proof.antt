@@ -10,6 +10,7 @@ use Rattle.row.specs.Widths.{rowLength}
 use Rattle.points.proofs.Steps.{lent}
 use Rattle.stored.specs.Phases.{updateRow, warmRow, solveRow}
 use Rattle.sweep.proofs.Steps.{updated}
+use Rattle.sweep.proofs.Apart.{room-apart, lent-apart, updated-apart, warmed-apart, solved-apart}
 use borrow.Author.Needs.{needs}
 use Rattle.sweep.proofs.update_at.Statement.{statement}
 use Rattle.sweep.proofs.update_at.Tie as tie
@@ -21,16 +22,16 @@ use Rattle.row.proofs.names_at.Reads as names-at-reads
 use Rattle.row.proofs.update_row.Reads as update-row-reads
 
 record-at-requires : tie.Need-record-at-requires
-record-at-requires c κs = omega (arith, room (c .before .before .pre) .said)
+record-at-requires c κs = omega (arith, room-apart _ _ (c .before .before .pre .0) .said)
 
 names-at-requires : tie.Need-names-at-requires
-names-at-requires c κs = subst (λ (r : List ℕ). rowLength (le16 r 4) ≤ length r) (sym (c .record-at .ensures .0)) (room (c .before .before .before .pre) .wide)
+names-at-requires c κs = subst (λ (r : List ℕ). rowLength (le16 r 4) ≤ length r) (sym (c .record-at .ensures .0)) (room-apart _ _ (c .before .before .before .pre .0) .wide)
 
 positions-requires : tie.Need-positions-requires
-positions-requires c κs = (omega (arith, room (c .before .before .before .before .before .pre) .few), omega (arith, room (c .before .before .before .before .before .pre) .points))
+positions-requires c κs = (omega (arith, room-apart _ _ (c .before .before .before .before .before .pre .0) .few), omega (arith, room-apart _ _ (c .before .before .before .before .before .pre .0) .points))
 
 add-e : tie.Need-add-e
-add-e c = omega (arith, room (c .before .before .before .before .before .before .pre) .end)
+add-e c = omega (arith, room-apart _ _ (c .before .before .before .before .before .before .pre .0) .end)
 
 sub-update-row : tie.Need-sub-update-row
 sub-update-row c = search needs
@@ -39,17 +40,17 @@ part-update-row-start : tie.Need-part-update-row-start
 part-update-row-start c = search needs
 
 part-update-row-end : tie.Need-part-update-row-end
-part-update-row-end c = omega (arith, room (c .before .before .before .before .before .before .pre) .end)
+part-update-row-end c = omega (arith, room-apart _ _ (c .before .before .before .before .before .before .pre .0) .end)
 
 update-row-requires : tie.Need-update-row-requires
-update-row-requires c κs = lent-room (c .before .before .before .before .before .before .before .pre)
+update-row-requires c κs = lent-apart _ _ (c .before .before .before .before .before .before .before .pre .0)
 
 same-length : tie.Need-same-length
 same-length c = search needs
 
 returns : tie.Need-returns
 returns c = let a = c .before .before .before .before .before .before .before .before .before .before .args in
-    updated _ _ _ _ _ _ _ _ _ (c .before .before .before .before .before .before .before .record-at .ensures .0) (c .before .before .before .before .before .before .names-at .ensures) (c .before .before .before .before .positions .ensures) (lent (a .off) (a .len) _ _ (updateRow (a .least) _) (c .before .before .update-row .ensures))
+    updated-apart _ _ (c .before .before .before .before .before .before .before .before .before .before .pre .0) _ _ (c .before .before .before .before .before .before .before .record-at .ensures .0) (c .before .before .before .before .before .before .names-at .ensures) _ _ _ (c .before .before .before .before .positions .ensures) (lent (a .off) (a .len) _ _ (updateRow (a .least) _) (c .before .before .update-row .ensures))
 
 pub update-at-spec : {M : Type 1} → statement M
 update-at-spec =

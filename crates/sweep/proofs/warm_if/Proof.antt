@@ -14,10 +14,10 @@ same-length : tie.Need-same-length
 same-length c = search needs
 
 returns : tie.Need-returns
-returns c = on _ _ _ _ _ _ _ (c .before .before .before .before .if1 .taken) (c .before .before .warm-at .ensures)
+returns c = (on _ _ _ _ _ _ _ (c .before .before .before .before .before .if1 .taken) (c .before .before .warm-at .ensures .0), c .before .before .warm-at .ensures .1)
 
 returns-2 : tie.Need-returns-2
-returns-2 c = not-on _ _ _ _ _ _ (c .if1 .left)
+returns-2 c = (not-on _ _ _ _ _ _ (c .if1 .left), c .before .before .pre .1)
 
 pub warm-if-spec : {M : Type 1} → statement M
 warm-if-spec = tie.close (tie.spec warm-at-requires same-length returns returns-2)
