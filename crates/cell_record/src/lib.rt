@@ -9,7 +9,6 @@ ghost use Rattle.floats.specs.Fields.{floatsAt};
 ghost use Rattle.stored.specs.Read.{cellOf, poseOf, impulsesOf};
 ghost use Rattle.stored.specs.Put.{putFlag, putPose, putImpulses};
 ghost use Rattle.cell_record.specs.Anew.{posAnew, deformationAnew, posedAnew};
-ghost use Rattle.cell_record.specs.Product.{columnAt, withColumn};
 use cell::Impulses;
 use cell::Pose;
 use places::Holds;
@@ -96,32 +95,44 @@ pub fn put_impulses(b: &mut [u8], l: Impulses)
     bytes::put_f32(b, layout::ELASTIC_VOL_IMPULSE, l.vol);
 }
 
-// ---- a 6x6 matrix of the record times a vector, column after column: the matrix is read where it is used, and not copied
+// ---- the block's inverse
 
-fn column_at(b: &[u8], k: usize, x: f32) -> [f32; 6]
-    requires { ⌜ k + 24 ≤ length (now b) ⌝ }
-    ensures { λ r. ⌜ r ≡ columnAt (now (b .entry)) k x ⌝ }
-{
-    let c = floats::floats6_at(b, k);
-    strain::scale6(&c, x)
+// Column by column.
+pub struct Compliance {
+    pub inv_a: [f32; 36],
 }
 
-fn with_column(s: &[f32; 6], b: &[u8], k: usize, x: f32) -> [f32; 6]
-    requires { ⌜ k + 24 ≤ length (now b) ⌝ }
-    ensures { λ r. ⌜ r ≡ withColumn (now (s .entry)) (now (b .entry)) k x ⌝ }
+fn compliance_of(b: &[u8]) -> Compliance
+    requires { ⌜ 450 ≤ length (now b) ⌝ }
+    ensures { λ r. ⌜ r .«inv_a» ≡ floatsAt 36 (now (b .entry)) at.elasticInvA ⌝ }
 {
-    let c = column_at(b, k, x);
-    strain::add6(s, &c)
+    let c0 = floats::floats6_at(b, layout::ELASTIC_INV_A);
+    let c1 = floats::floats6_at(b, layout::ELASTIC_INV_A + 24);
+    let c2 = floats::floats6_at(b, layout::ELASTIC_INV_A + 48);
+    let c3 = floats::floats6_at(b, layout::ELASTIC_INV_A + 72);
+    let c4 = floats::floats6_at(b, layout::ELASTIC_INV_A + 96);
+    let c5 = floats::floats6_at(b, layout::ELASTIC_INV_A + 120);
+    let mut inv_a = [0.0f32; 36];
+    strain::set_column(&mut inv_a, 0, &c0);
+    strain::set_column(&mut inv_a, 1, &c1);
+    strain::set_column(&mut inv_a, 2, &c2);
+    strain::set_column(&mut inv_a, 3, &c3);
+    strain::set_column(&mut inv_a, 4, &c4);
+    strain::set_column(&mut inv_a, 5, &c5);
+    Compliance { inv_a }
 }
 
-pub fn product_at(b: &[u8], k: usize, v: &[f32; 6]) -> [f32; 6]
-    requires { ⌜ k + 144 ≤ length (now b) ⌝ }
-    ensures { λ r. ⌜ r ≡ matVec (floatsAt 36 (now (b .entry)) k) (now (v .entry)) ⌝ }
+fn eased(k: Compliance, res: &[f32; 6]) -> [f32; 6]
+    ensures { λ r. ⌜ r ≡ matVec (k .«inv_a») (now (res .entry)) ⌝ }
 {
-    let s0 = column_at(b, k, v[0]);
-    let s1 = with_column(&s0, b, k + 24, v[1]);
-    let s2 = with_column(&s1, b, k + 48, v[2]);
-    let s3 = with_column(&s2, b, k + 72, v[3]);
-    let s4 = with_column(&s3, b, k + 96, v[4]);
-    with_column(&s4, b, k + 120, v[5])
+    let inv_a = k.inv_a;
+    strain::mat_vec(&inv_a, res)
+}
+
+// One function reads the matrix and multiplies, and so it is not copied.
+pub fn eased_at(b: &[u8], res: &[f32; 6]) -> [f32; 6]
+    requires { ⌜ 450 ≤ length (now b) ⌝ }
+    ensures { λ r. ⌜ r ≡ matVec (floatsAt 36 (now (b .entry)) at.elasticInvA) (now (res .entry)) ⌝ }
+{
+    eased(compliance_of(b), res)
 }

@@ -136,7 +136,7 @@ fn strain_step(b: &[u8], rot: Mat3, coeffs: Four, impulse: &[f32; 6], vel: Holds
     let cfm = floats6_at(b, layout::CORO_CFM_STRAIN);
     let rate = cell::solve::strain_rates(rot, coeffs, vel);
     let res = corotational::block::residual(&erp, &cfm, &strain, impulse, &rate);
-    cell_record::product_at(b, layout::ELASTIC_INV_A, &res)
+    cell_record::eased_at(b, &res)
 }
 
 fn solved(b: &[u8], vel: Holds) -> Solved

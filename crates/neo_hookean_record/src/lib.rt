@@ -4,7 +4,9 @@ ghost use mathlib.Core.Path.{_≡_};
 ghost use Prim.Native.Nat.{_≤_};
 ghost use lib.ListN.{length};
 ghost use Rattle.neo_hookean.specs.Row as n;
-ghost use Rattle.stored.specs.Read.{materialOf, neoHookeanOf};
+ghost use Rattle.records.specs.Layout as at;
+ghost use Rattle.floats.specs.Fields.{floatsAt};
+ghost use Rattle.stored.specs.Read.{materialOf, stiffnessOf, neoHookeanOf};
 ghost use Rattle.stored.specs.Phases.{updateNeoHookean, warmNeoHookean, solveNeoHookean};
 ghost use Rattle.neo_hookean_record.specs.Parts as spec;
 use bytes::get_f32;
@@ -21,6 +23,7 @@ use floats::put_floats6;
 use floats::put_floats36;
 use neo_hookean::Block;
 use neo_hookean::Material;
+use neo_hookean::Stiffness;
 use places::Holds;
 use records::layout;
 use vector::Four;
@@ -136,16 +139,52 @@ pub fn warm_neo_hookean(b: &mut [u8], coeff: f32) -> Four
 
 // ---- solve
 
+fn m_of(b: &[u8]) -> [f32; 36]
+    requires { ⌜ 678 ≤ length (now b) ⌝ }
+    ensures { λ r. ⌜ r ≡ floatsAt 36 (now (b .entry)) at.neoM ⌝ }
+{
+    let c0 = floats6_at(b, layout::NEO_M);
+    let c1 = floats6_at(b, layout::NEO_M + 24);
+    let c2 = floats6_at(b, layout::NEO_M + 48);
+    let c3 = floats6_at(b, layout::NEO_M + 72);
+    let c4 = floats6_at(b, layout::NEO_M + 96);
+    let c5 = floats6_at(b, layout::NEO_M + 120);
+    let mut m = [0.0f32; 36];
+    strain::set_column(&mut m, 0, &c0);
+    strain::set_column(&mut m, 1, &c1);
+    strain::set_column(&mut m, 2, &c2);
+    strain::set_column(&mut m, 3, &c3);
+    strain::set_column(&mut m, 4, &c4);
+    strain::set_column(&mut m, 5, &c5);
+    m
+}
+
+fn stiffness_of(b: &[u8]) -> Stiffness
+    requires { ⌜ 678 ≤ length (now b) ⌝ }
+    ensures { λ r. ⌜ r ≡ stiffnessOf (now (b .entry)) ⌝ }
+{
+    let stiffness_strain = floats6_at(b, layout::NEO_STIFFNESS_STRAIN);
+    let m = m_of(b);
+    let dt_grad = floats6_at(b, layout::NEO_DT_GRAD);
+    Stiffness {
+        stiffness_strain,
+        m,
+        dt_grad,
+    }
+}
+
 // What the strain rows take.
 fn strain_step(b: &[u8], rot: Mat3, coeffs: Four, impulse: &[f32; 6], vel: Holds) -> [f32; 6]
     requires { ⌜ 678 ≤ length (now b) ⌝ }
     ensures { λ r. ⌜ r ≡ spec.strainStepAt rot coeffs (now (impulse .entry)) vel (now (b .entry)) ⌝ }
 {
     let rate = cell::solve::strain_rates(rot, coeffs, vel);
-    let pull = cell_record::product_at(b, layout::NEO_M, &rate);
-    let dt_grad = floats6_at(b, layout::NEO_DT_GRAD);
+    let k = stiffness_of(b);
+    let m = k.m;
+    let dt_grad = k.dt_grad;
+    let pull = strain::mat_vec(&m, &rate);
     let res = neo_hookean::iteration::residual(&pull, &dt_grad, impulse);
-    cell_record::product_at(b, layout::ELASTIC_INV_A, &res)
+    cell_record::eased_at(b, &res)
 }
 
 fn solved(b: &[u8], vel: Holds) -> Solved

@@ -21,14 +21,14 @@ strain-rates-requires c κs = search needs
 residual-requires : tie.Need-residual-requires
 residual-requires c κs = search needs
 
-product-at-requires : tie.Need-product-at-requires
-product-at-requires c κs = search needs
+eased-at-requires : tie.Need-eased-at-requires
+eased-at-requires c κs = search needs
 
 returns : tie.Need-returns
 unfolding strainStep strainStepAt
 returns c =
     rw (
-      c .product-at .ensures,
+      c .eased-at .ensures,
       c .before .before .residual .ensures,
       c .before .before .before .before .before .before .before .strain-rates .ensures,
       c .before .before .before .before .before .before .before .before .floats6-at3 .ensures,
@@ -46,5 +46,5 @@ strain-step-spec =
     floats6-at-requires-3
     strain-rates-requires
     residual-requires
-    product-at-requires
+    eased-at-requires
     returns)

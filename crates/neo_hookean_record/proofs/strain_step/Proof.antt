@@ -1,6 +1,7 @@
 -- `neo_hookean_record::strain_step` meets its contract. Its calls are the definition's, with the fields that it uses. Assumes nothing.
 use borrow.Author.Needs.{needs}
 use mathlib.Core.Path.{refl}
+use Rattle.stored.specs.Read.{stiffnessOf}
 use Rattle.neo_hookean.specs.NeoHookean.{strainStep}
 use Rattle.neo_hookean_record.specs.Parts.{strainStepAt}
 use Rattle.neo_hookean_record.proofs.strain_step.Statement.{statement}
@@ -9,27 +10,27 @@ use Rattle.neo_hookean_record.proofs.strain_step.Tie as tie
 strain-rates-requires : tie.Need-strain-rates-requires
 strain-rates-requires c κs = search needs
 
-product-at-requires : tie.Need-product-at-requires
-product-at-requires c κs = search needs
+stiffness-of-requires : tie.Need-stiffness-of-requires
+stiffness-of-requires c κs = search needs
 
-floats6-at-requires : tie.Need-floats6-at-requires
-floats6-at-requires c κs = search needs
+mat-vec-requires : tie.Need-mat-vec-requires
+mat-vec-requires c κs = search needs
 
 residual-requires : tie.Need-residual-requires
 residual-requires c κs = search needs
 
-product-at-requires-2 : tie.Need-product-at-requires-2
-product-at-requires-2 c κs = search needs
+eased-at-requires : tie.Need-eased-at-requires
+eased-at-requires c κs = search needs
 
 returns : tie.Need-returns
-unfolding strainStep strainStepAt
+unfolding strainStep strainStepAt stiffnessOf
 returns c =
     rw (
-      c .product-at2 .ensures,
+      c .eased-at .ensures,
       c .before .before .residual .ensures,
-      c .before .before .before .before .before .floats6-at .ensures,
-      c .before .before .before .before .before .before .product-at .ensures,
-      c .before .before .before .before .before .before .before .before .strain-rates .ensures,
+      c .before .before .before .before .before .mat-vec .ensures,
+      c .before .before .before .before .before .before .before .before .before .before .stiffness-of .ensures,
+      c .before .before .before .before .before .before .before .before .before .before .before .strain-rates .ensures,
     )
     refl
 
@@ -38,8 +39,8 @@ strain-step-spec =
     tie.close
     (tie.spec
     strain-rates-requires
-    product-at-requires
-    floats6-at-requires
+    stiffness-of-requires
+    mat-vec-requires
     residual-requires
-    product-at-requires-2
+    eased-at-requires
     returns)
