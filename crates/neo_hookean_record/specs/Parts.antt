@@ -15,7 +15,7 @@ use Rattle.neo_hookean.specs.NeoHookean.{isFresh, renewed, strainStep}
 use Rattle.energy.specs.declared.Energy.{Energy}
 use Rattle.neo_hookean.specs.declared.Block.{Block}
 use Rattle.floats.specs.Fields.{fourAt, massesAt, floatsAt}
-use Rattle.stored.specs.Read.{materialOf}
+use Rattle.stored.specs.Read.{complianceOf, materialOf}
 use Rattle.stored.specs.Put.{putPose, putRenewed}
 
 unfoldable pub energyAnew : List Float → List ℕ → Energy
@@ -39,4 +39,4 @@ putMoved pose e dtGrad b =
 
 -- what the strain rows take
 unfoldable pub strainStepAt : Mat3 → Four → List Float → Holds → List ℕ → List Float
-strainStepAt rot coeffs impulse vel b = strainStep rot coeffs (floatsAt 36 b at.elasticInvA) (floatsAt 36 b at.neoM) (floatsAt 6 b at.neoDtGrad) impulse vel
+strainStepAt rot coeffs impulse vel b = strainStep rot coeffs (complianceOf b .«inv_a») (floatsAt 36 b at.neoM) (floatsAt 6 b at.neoDtGrad) impulse vel

@@ -1,8 +1,8 @@
--- `scalar_record::scalar_of` meets its contract. Its calls are the definition's. Assumes nothing.
+-- `scalar_record::row_to_solve` meets its contract. Its calls are the definition's. Assumes nothing.
 use borrow.Author.Needs.{needs}
 use Rattle.stored.specs.Read.{scalarOf}
-use Rattle.scalar_record.proofs.scalar_of.Statement.{statement}
-use Rattle.scalar_record.proofs.scalar_of.Tie as tie
+use Rattle.scalar_record.proofs.row_to_solve.Statement.{statement}
+use Rattle.scalar_record.proofs.row_to_solve.Tie as tie
 
 get-u16-requires : tie.Need-get-u16-requires
 get-u16-requires c κs = search needs
@@ -35,8 +35,8 @@ returns : tie.Need-returns
 unfolding scalarOf
 returns c = cc
 
-pub scalar-of-spec : {M : Type 1} → statement M
-scalar-of-spec =
+pub row-to-solve-spec : {M : Type 1} → statement M
+row-to-solve-spec =
     tie.close
     (tie.spec
     get-u16-requires
