@@ -140,9 +140,9 @@ renewed-size : (s : Stiffness) (invA : List Float) (b : List ℕ) → length (pu
 unfolding putRenewed
 renewed-size s invA b = simp (length-putFloats 36, length-putFloats 6)
 
-block-size : (r : NeoHookeanRow) (c : List ℕ) (t : Bool) → length (cond t c (putRenewed (r .stiffness) (r .«inv_a») c)) ≡ length c
+block-size : (r : NeoHookeanRow) (c : List ℕ) (t : Bool) → length (cond t c (putRenewed (r .stiffness) (r .compliance .«inv_a») c)) ≡ length c
 block-size r c true = refl
-block-size r c false = renewed-size (r .stiffness) (r .«inv_a») c
+block-size r c false = renewed-size (r .stiffness) (r .compliance .«inv_a») c
 
 neo-size : (r : NeoHookeanRow) (b : List ℕ) → length (putNeoHookean r b) ≡ length b
 unfolding putNeoHookean
