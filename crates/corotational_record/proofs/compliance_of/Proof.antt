@@ -3,9 +3,6 @@ use borrow.Author.Needs.{needs}
 use Rattle.stored.specs.Read.{complianceOf}
 use Rattle.corotational_record.proofs.compliance_of.Statement.{statement}
 use Rattle.corotational_record.proofs.compliance_of.Tie as tie
-use Rattle.corotational_record.proofs.compliance_of.Reads as reads
-use Rattle.corotational_record.proofs.compliance_of.Lts as lts
-use Rattle.floats.proofs.floats36_at.Reads as floats36-at-reads
 
 floats36-at-requires : tie.Need-floats36-at-requires
 floats36-at-requires c κs = search needs

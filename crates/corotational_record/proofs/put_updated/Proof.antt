@@ -3,11 +3,6 @@ use borrow.Author.Needs.{needs}
 use mathlib.Core.Path.{refl}
 use Rattle.corotational_record.proofs.put_updated.Statement.{statement}
 use Rattle.corotational_record.proofs.put_updated.Tie as tie
-use Rattle.corotational_record.proofs.put_updated.Reads as reads
-use Rattle.corotational_record.proofs.put_updated.Lts as lts
-use Rattle.cell_record.proofs.put_pose.Reads as put-pose-reads
-use Rattle.cell_record.proofs.put_strained.Reads as put-strained-reads
-use Rattle.corotational_record.proofs.put_volume.Reads as put-volume-reads
 
 put-pose-requires : tie.Need-put-pose-requires
 put-pose-requires c κs = search needs

@@ -7,12 +7,6 @@ use Rattle.cell_record.specs.Anew.{posAnew, deformationAnew, posedAnew}
 use Rattle.corotational_record.specs.Parts.{volumeAnew}
 use Rattle.corotational_record.proofs.updated.Statement.{statement}
 use Rattle.corotational_record.proofs.updated.Tie as tie
-use Rattle.corotational_record.proofs.updated.Reads as reads
-use Rattle.corotational_record.proofs.updated.Lts as lts
-use Rattle.cell_record.proofs.deformation_anew.Reads as deformation-anew-reads
-use Rattle.cell_record.proofs.pos_anew.Reads as pos-anew-reads
-use Rattle.cell_record.proofs.posed_anew.Reads as posed-anew-reads
-use Rattle.corotational_record.proofs.volume_anew.Reads as volume-anew-reads
 
 pos-anew-requires : tie.Need-pos-anew-requires
 pos-anew-requires c κs = search needs

@@ -3,10 +3,6 @@ use borrow.Author.Needs.{needs}
 use mathlib.Core.Path.{refl}
 use Rattle.neo_hookean_record.proofs.is_kept.Statement.{statement}
 use Rattle.neo_hookean_record.proofs.is_kept.Tie as tie
-use Rattle.neo_hookean_record.proofs.is_kept.Reads as reads
-use Rattle.neo_hookean_record.proofs.is_kept.Lts as lts
-use Rattle.floats.proofs.floats6_at.Reads as floats6-at-reads
-use Rattle.neo_hookean.proofs.renewal.is_fresh.Reads as is-fresh-reads
 
 floats6-at-requires : tie.Need-floats6-at-requires
 floats6-at-requires c κs = search needs

@@ -3,10 +3,6 @@ use borrow.Author.Needs.{needs}
 use mathlib.Core.Path.{refl}
 use Rattle.neo_hookean_record.proofs.put_kept.Statement.{statement}
 use Rattle.neo_hookean_record.proofs.put_kept.Tie as tie
-use Rattle.neo_hookean_record.proofs.put_kept.Reads as reads
-use Rattle.neo_hookean_record.proofs.put_kept.Lts as lts
-use Rattle.cell_record.proofs.put_pose.Reads as put-pose-reads
-use Rattle.neo_hookean_record.proofs.put_strains.Reads as put-strains-reads
 
 put-pose-requires : tie.Need-put-pose-requires
 put-pose-requires c κs = search needs

@@ -3,11 +3,6 @@ use borrow.Author.Needs.{needs}
 use mathlib.Core.Path.{refl}
 use Rattle.neo_hookean_record.proofs.put_renewed.Statement.{statement}
 use Rattle.neo_hookean_record.proofs.put_renewed.Tie as tie
-use Rattle.neo_hookean_record.proofs.put_renewed.Reads as reads
-use Rattle.neo_hookean_record.proofs.put_renewed.Lts as lts
-use Rattle.cell_record.proofs.put_pose.Reads as put-pose-reads
-use Rattle.neo_hookean_record.proofs.put_block.Reads as put-block-reads
-use Rattle.neo_hookean_record.proofs.put_strains.Reads as put-strains-reads
 
 put-pose-requires : tie.Need-put-pose-requires
 put-pose-requires c κs = search needs

@@ -4,10 +4,6 @@ use mathlib.Core.Path.{refl}
 use Rattle.neo_hookean_record.specs.Parts.{putStrains}
 use Rattle.neo_hookean_record.proofs.put_strains.Statement.{statement}
 use Rattle.neo_hookean_record.proofs.put_strains.Tie as tie
-use Rattle.neo_hookean_record.proofs.put_strains.Reads as reads
-use Rattle.neo_hookean_record.proofs.put_strains.Lts as lts
-use Rattle.cell_record.proofs.put_strained.Reads as put-strained-reads
-use Rattle.floats.proofs.put_floats6.Reads as put-floats6-reads
 
 put-floats6-requires : tie.Need-put-floats6-requires
 put-floats6-requires c κs = search needs

@@ -4,12 +4,6 @@ use mathlib.Core.Path.{refl}
 use Rattle.neo_hookean_record.specs.Parts.{blockAnew}
 use Rattle.neo_hookean_record.proofs.renewed.Statement.{statement}
 use Rattle.neo_hookean_record.proofs.renewed.Tie as tie
-use Rattle.neo_hookean_record.proofs.renewed.Reads as reads
-use Rattle.neo_hookean_record.proofs.renewed.Lts as lts
-use Rattle.floats.proofs.four_at.Reads as four-at-reads
-use Rattle.floats.proofs.masses_at.Reads as masses-at-reads
-use Rattle.neo_hookean.proofs.renewal.renewed.Reads as renewed-reads
-use Rattle.neo_hookean_record.proofs.material_of.Reads as material-of-reads
 
 four-at-requires : tie.Need-four-at-requires
 four-at-requires c κs = search needs

@@ -5,10 +5,6 @@ use Rattle.stored.specs.Read.{stiffnessOf}
 use Rattle.cell_record.proofs.Joined.{joined-of}
 use Rattle.neo_hookean_record.proofs.stiffness_of.Statement.{statement}
 use Rattle.neo_hookean_record.proofs.stiffness_of.Tie as tie
-use Rattle.neo_hookean_record.proofs.stiffness_of.Reads as reads
-use Rattle.neo_hookean_record.proofs.stiffness_of.Lts as lts
-use Rattle.cell.proofs.tensor.from_columns.Reads as from-columns-reads
-use Rattle.floats.proofs.floats6_at.Reads as floats6-at-reads
 
 floats6-at-requires : tie.Need-floats6-at-requires
 floats6-at-requires c κs = search needs

@@ -5,12 +5,6 @@ use Rattle.neo_hookean.specs.NeoHookean.{strainStep}
 use Rattle.neo_hookean_record.specs.Parts.{strainStepAt}
 use Rattle.neo_hookean_record.proofs.strain_step.Statement.{statement}
 use Rattle.neo_hookean_record.proofs.strain_step.Tie as tie
-use Rattle.neo_hookean_record.proofs.strain_step.Reads as reads
-use Rattle.neo_hookean_record.proofs.strain_step.Lts as lts
-use Rattle.cell.proofs.solve.strain_rates.Reads as strain-rates-reads
-use Rattle.cell_record.proofs.eased_at.Reads as eased-at-reads
-use Rattle.neo_hookean.proofs.iteration.pulled.Reads as pulled-reads
-use Rattle.neo_hookean_record.proofs.stiffness_of.Reads as stiffness-of-reads
 
 strain-rates-requires : tie.Need-strain-rates-requires
 strain-rates-requires c κs = search needs

@@ -4,11 +4,6 @@ use mathlib.Core.Path.{refl}
 use Rattle.neo_hookean_record.specs.Parts.{updateAnew}
 use Rattle.neo_hookean_record.proofs.updated.Statement.{statement}
 use Rattle.neo_hookean_record.proofs.updated.Tie as tie
-use Rattle.neo_hookean_record.proofs.updated.Reads as reads
-use Rattle.neo_hookean_record.proofs.updated.Lts as lts
-use Rattle.cell_record.proofs.pose_anew.Reads as pose-anew-reads
-use Rattle.neo_hookean_record.proofs.dt_grad_anew.Reads as dt-grad-anew-reads
-use Rattle.neo_hookean_record.proofs.energy_anew.Reads as energy-anew-reads
 
 pose-anew-requires : tie.Need-pose-anew-requires
 pose-anew-requires c κs = search needs
