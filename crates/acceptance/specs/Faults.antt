@@ -77,8 +77,9 @@ pub data Fault (b : List ℕ) (c : ℕ) : ℕ → ℕ → Type 0 where
   fault-6 : {k : ℕ} → Disordered b c k → Fault b c 6 k
   fault-7 : {k : ℕ} → ColourFalls b c k → Fault b c 7 k
 
--- NUMBER n AT PLACE p: check gets to a record that is due and whole; byte k of it, at p in the frame, is in the case of number n,
--- no byte of it in that of a lower number ("3 to 7 in turn"), and no earlier byte in this one ("each at its earliest place")
+-- NUMBER n AT PLACE p: check gets to the record at off, after a row of colour `before`; the record is due and whole; its byte k, which is p
+-- in the frame, is in the case of number n, no byte in that of a lower number ("3 to 7 in turn"), no earlier byte in this one ("each at its
+-- earliest place")
 pub record GivenAs (n : ℕ) (Case : List ℕ → ℕ → ℕ → Type 0) (s : List ℕ) (p : ℕ) : Type 0 where
   pub due : Due
   pub off : ℕ
