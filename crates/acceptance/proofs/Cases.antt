@@ -18,7 +18,7 @@ use Rattle.records.proofs.Shapes.{Shaped, longer, kind-of, kind-record}
 use Rattle.acceptance.specs.Given.{GivenField}
 use Rattle.acceptance.specs.Faults.{TooMany, BadCode, NotFinite, Disordered, ColourFalls, Fault, fault-3, fault-4, fault-5, fault-6, fault-7, GivenAs, Given3, Given4, Given5, Given6, Given7}
 use Rattle.acceptance.proofs.Numbers.{first-failure}
-use Rattle.acceptance.proofs.Turns.{Has, each-has, has-after, turn, first-earliest, earliest-first}
+use Rattle.acceptance.proofs.Earliest.{Has, each-has, has-after, turn, first-earliest, earliest-first}
 use Rattle.acceptance.proofs.InTurn.{fields-in-turn, fields-are, fault-fails}
 
 -- ---- one record: in the case of number n at k, in no lower number's, and at no earlier byte in this one

@@ -15,7 +15,7 @@ use Rattle.records.specs.Answers.{Test}
 use Rattle.records.specs.Fields.{limit16, limit32, code, finite, bound, ordered, cap, colourFrom, run, headFields, pointFields, scalarCodes, scalarFloats, scalarFields, elasticCodes, corotationalFields, neoHookeanFields, fields}
 use Rattle.records.proofs.ByKind.{Kind, a-head, a-point, a-scalar, a-corotational, a-neo-hookean, fields-1, fields-2, fields-3, fields-4, fields-else}
 use Rattle.acceptance.specs.Faults.{Is, IsElastic, IsRow, Among, FloatAt, Fault, points, rows, resweeps, count, mode, strained, type, inverted, volumetric, zero-code, of-head, of-point, of-scalar, of-corotational, of-neo-hookean, float, lower, upper, bounds, strain-cap, vol-cap, colour, fault-3, fault-4, fault-5, fault-6, fault-7}
-use Rattle.acceptance.proofs.Turns.{Has, Each, has-part, has-run, each-append, each-run, inTurn}
+use Rattle.acceptance.proofs.Earliest.{Has, Each, has-part, has-run, each-append, each-run, inTurn}
 
 -- ---- in turn: computed, whatever the bytes are
 
