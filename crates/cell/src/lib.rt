@@ -27,6 +27,12 @@ pub struct Pose {
     pub inverted: bool,
 }
 
+// The inverse of the strain rows' block.
+#[repr(C)]
+pub struct Compliance {
+    pub inv_a: [f32; 36],
+}
+
 // What a warm start and a solve assign.
 #[repr(C)]
 pub struct Impulses {

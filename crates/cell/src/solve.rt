@@ -1,6 +1,8 @@
 // The velocities in the cell's frame, and what an impulse takes from each place.
 ghost use mathlib.Core.Path.{_≡_};
 ghost use Rattle.cell.specs.Cell as spec;
+ghost use Rattle.strain.specs.Matrix.{matVec};
+use crate::Compliance;
 use crate::tensor::outer_sum;
 use crate::tensor::strain_rows_of;
 use crate::tensor::strain_tensor;
@@ -38,6 +40,14 @@ pub fn strain_rates(rot: Mat3, coeffs: Four, vel: Holds) -> [f32; 6]
     ensures { λ r. ⌜ r ≡ spec.strainRates rot coeffs vel ⌝ }
 {
     strain_rows_of(outer_sum(local_velocities(rot, vel), coeffs))
+}
+
+// The impulses that answer a residual of the strain rows.
+pub fn eased(k: Compliance, residual: &[f32; 6]) -> [f32; 6]
+    ensures { λ r. ⌜ r ≡ matVec (k .«inv_a») (now (residual .entry)) ⌝ }
+{
+    let inv_a = k.inv_a;
+    strain::mat_vec(&inv_a, residual)
 }
 
 fn strain_loss(rot: Mat3, t: Mat3, c: Vec3, w: f32) -> Vec3

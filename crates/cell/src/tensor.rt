@@ -134,7 +134,8 @@ fn block_column(k: Vec3, gk: Vec3, l: Vec3, gl: Vec3) -> [f32; 6]
     ]
 }
 
-fn from_columns(
+// A 6x6 matrix of its columns.
+pub fn from_columns(
     c0: &[f32; 6],
     c1: &[f32; 6],
     c2: &[f32; 6],

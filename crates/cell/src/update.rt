@@ -1,10 +1,8 @@
 // The update of positions, rotation and strain.
 ghost use mathlib.Core.Path.{_≡_};
 ghost use Rattle.cell.specs.Cell as spec;
-use crate::Cell;
 use crate::Pose;
 use crate::tensor::strain_rows_of;
-use places::Holds;
 use shape::cell::cell_edge_matrix;
 use shape::rotation::extract_rotation;
 use vector::Four;
@@ -75,15 +73,6 @@ pub fn posed(caps: &[f32; 6], warm: Quat, pos: Four, f: Mat3) -> Pose
         strain,
         inverted,
     }
-}
-
-pub fn update_pose(cell: Cell, p: Pose, held: Holds) -> Pose
-    ensures { λ r. ⌜ r ≡ spec.updatePose cell p held ⌝ }
-{
-    let pos = places::refreshed(held, p.pos);
-    let f = deformation_gradient(pos, cell.inv_rest_matrix);
-    let caps = cell.strain_cap;
-    posed(&caps, p.rotation, pos, f)
 }
 
 // Whether a strain, as last updated, is past the least: such rows are solved again after the main sweep.

@@ -5,12 +5,13 @@ ghost use lib.ListN.{length};
 ghost use Rattle.records.specs.Layout as at;
 ghost use Rattle.strain.specs.Matrix.{matVec};
 ghost use Rattle.cell.specs.Cell as cell;
-ghost use Rattle.floats.specs.Fields.{floatsAt};
-ghost use Rattle.stored.specs.Read.{cellOf, poseOf, impulsesOf};
+ghost use Rattle.stored.specs.Read.{cellOf, poseOf, complianceOf, impulsesOf};
 ghost use Rattle.stored.specs.Put.{putFlag, putPose, putImpulses};
 ghost use Rattle.cell_record.specs.Anew.{posAnew, deformationAnew, posedAnew};
+use cell::Compliance;
 use cell::Impulses;
 use cell::Pose;
+use cell::tensor::from_columns;
 use places::Holds;
 use records::layout;
 use stored::put_flag;
@@ -95,16 +96,11 @@ pub fn put_impulses(b: &mut [u8], l: Impulses)
     bytes::put_f32(b, layout::ELASTIC_VOL_IMPULSE, l.vol);
 }
 
-// ---- the block's inverse
-
-// Column by column.
-pub struct Compliance {
-    pub inv_a: [f32; 36],
-}
+// ---- the block's inverse: it is read and multiplied in one function, which both kinds call, and so it is never copied
 
 fn compliance_of(b: &[u8]) -> Compliance
     requires { ⌜ 450 ≤ length (now b) ⌝ }
-    ensures { λ r. ⌜ r .«inv_a» ≡ floatsAt 36 (now (b .entry)) at.elasticInvA ⌝ }
+    ensures { λ r. ⌜ r ≡ complianceOf (now (b .entry)) ⌝ }
 {
     let c0 = floats::floats6_at(b, layout::ELASTIC_INV_A);
     let c1 = floats::floats6_at(b, layout::ELASTIC_INV_A + 24);
@@ -112,27 +108,13 @@ fn compliance_of(b: &[u8]) -> Compliance
     let c3 = floats::floats6_at(b, layout::ELASTIC_INV_A + 72);
     let c4 = floats::floats6_at(b, layout::ELASTIC_INV_A + 96);
     let c5 = floats::floats6_at(b, layout::ELASTIC_INV_A + 120);
-    let mut inv_a = [0.0f32; 36];
-    strain::set_column(&mut inv_a, 0, &c0);
-    strain::set_column(&mut inv_a, 1, &c1);
-    strain::set_column(&mut inv_a, 2, &c2);
-    strain::set_column(&mut inv_a, 3, &c3);
-    strain::set_column(&mut inv_a, 4, &c4);
-    strain::set_column(&mut inv_a, 5, &c5);
+    let inv_a = from_columns(&c0, &c1, &c2, &c3, &c4, &c5);
     Compliance { inv_a }
 }
 
-fn eased(k: Compliance, res: &[f32; 6]) -> [f32; 6]
-    ensures { λ r. ⌜ r ≡ matVec (k .«inv_a») (now (res .entry)) ⌝ }
-{
-    let inv_a = k.inv_a;
-    strain::mat_vec(&inv_a, res)
-}
-
-// One function reads the matrix and multiplies, and so it is not copied.
-pub fn eased_at(b: &[u8], res: &[f32; 6]) -> [f32; 6]
+pub fn eased_at(b: &[u8], residual: &[f32; 6]) -> [f32; 6]
     requires { ⌜ 450 ≤ length (now b) ⌝ }
-    ensures { λ r. ⌜ r ≡ matVec (floatsAt 36 (now (b .entry)) at.elasticInvA) (now (res .entry)) ⌝ }
+    ensures { λ r. ⌜ r ≡ matVec (complianceOf (now (b .entry)) .«inv_a») (now (residual .entry)) ⌝ }
 {
-    eased(compliance_of(b), res)
+    cell::solve::eased(compliance_of(b), residual)
 }

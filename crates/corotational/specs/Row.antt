@@ -17,20 +17,20 @@ update r held =
     record {
       cell = cell;
       pose = pose;
-      «inv_a» = r .«inv_a»;
+      compliance = r .compliance;
       impulses = r .impulses;
       springs = r .springs;
-      volume = updateVolume (cell .«inv_rest_matrix») (cell .coeffs) (cell .im) (r .springs) (r .«inv_a») (pose .«rot_mat») (pose .inverted) f;
+      volume = updateVolume (cell .«inv_rest_matrix») (cell .coeffs) (cell .im) (r .springs) (r .compliance .«inv_a») (pose .«rot_mat») (pose .inverted) f;
     }
 
 -- what a warm start and a solve assign
 abbrev pub withImpulses : CorotationalRow → Impulses → CorotationalRow
-withImpulses r l = record { cell = r .cell; pose = r .pose; «inv_a» = r .«inv_a»; impulses = l; springs = r .springs; volume = r .volume }
+withImpulses r l = record { cell = r .cell; pose = r .pose; compliance = r .compliance; impulses = l; springs = r .springs; volume = r .volume }
 
 -- the impulses anew, and what each place is to lose
 unfoldable pub solve : CorotationalRow → Holds → Solved
 solve r vel =
-    solveCorotational (r .pose .«rot_mat») (r .cell .coeffs) (r .cell .im) (r .pose .strain) (r .«inv_a») (r .springs .«erp_strain») (r .springs .«cfm_strain»)
+    solveCorotational (r .pose .«rot_mat») (r .cell .coeffs) (r .cell .im) (r .pose .strain) (r .compliance .«inv_a») (r .springs .«erp_strain») (r .springs .«cfm_strain»)
     (r .impulses) (r .volume) vel
 
 unfoldable pub warmstart : CorotationalRow → Float → Solved

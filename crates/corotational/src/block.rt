@@ -4,7 +4,6 @@ ghost use Rattle.corotational.specs.Corotational as spec;
 use crate::Volume;
 use cell::Impulses;
 use cell::Solved;
-use cell::solve::strain_rates;
 use cell::solve::volume_losses;
 use places::Held;
 use places::Holds;
@@ -12,7 +11,6 @@ use places::Masses;
 use strain::add6;
 use strain::component_mul6;
 use strain::dot6;
-use strain::mat_vec;
 use strain::scale6;
 use strain::sub6;
 use vector::Four;
@@ -47,24 +45,6 @@ pub fn residual(
     let give = component_mul6(cfm, impulse);
     let sum = add6(rate, &pull);
     sub6(&sum, &give)
-}
-
-// What the strain rows would take if there were no volumetric row.
-fn strain_step(
-    rot: Mat3,
-    coeffs: Four,
-    strain: &[f32; 6],
-    inv_a: &[f32; 36],
-    erp: &[f32; 6],
-    cfm: &[f32; 6],
-    impulse: &[f32; 6],
-    vel: Holds,
-) -> [f32; 6]
-    ensures { λ r. ⌜ r ≡ spec.strainStep rot coeffs (now (strain .entry)) (now («inv_a» .entry)) (now (erp .entry)) (now (cfm .entry)) (now (impulse .entry)) vel ⌝ }
-{
-    let rate = strain_rates(rot, coeffs, vel);
-    let res = residual(erp, cfm, strain, impulse, &rate);
-    mat_vec(inv_a, &res)
 }
 
 fn volume_step(u: Volume, impulse: f32, rate: f32, y: &[f32; 6]) -> f32
@@ -115,25 +95,6 @@ pub fn solve_rows(
     let correction = scale6(&z, x);
     let d = sub6(y, &correction);
     applied(rot, coeffs, im, l, &d, u.grad_vol, x)
-}
-
-pub fn solve_corotational(
-    rot: Mat3,
-    coeffs: Four,
-    im: Masses,
-    strain: &[f32; 6],
-    inv_a: &[f32; 36],
-    erp: &[f32; 6],
-    cfm: &[f32; 6],
-    l: Impulses,
-    u: Volume,
-    vel: Holds,
-) -> Solved
-    ensures { λ r. ⌜ r ≡ spec.solveCorotational rot coeffs im (now (strain .entry)) (now («inv_a» .entry)) (now (erp .entry)) (now (cfm .entry)) l u vel ⌝ }
-{
-    let impulse = l.strain;
-    let y = strain_step(rot, coeffs, strain, inv_a, erp, cfm, &impulse, vel);
-    solve_rows(rot, coeffs, im, l, u, vel, &y)
 }
 
 pub fn warmstart_corotational(

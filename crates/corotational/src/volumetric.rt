@@ -3,6 +3,7 @@ ghost use mathlib.Core.Path.{_≡_};
 ghost use Rattle.corotational.specs.Corotational as spec;
 use crate::Springs;
 use crate::Volume;
+use cell::Compliance;
 use cell::tensor::outer_sum;
 use cell::tensor::strain_rows_of;
 use cell::update::capped;
@@ -79,18 +80,19 @@ pub fn update_volume(
     coeffs: Four,
     im: Masses,
     s: Springs,
-    inv_a: &[f32; 36],
+    k: Compliance,
     rot: Mat3,
     inverted: bool,
     f: Mat3,
 ) -> Volume
-    ensures { λ r. ⌜ r ≡ spec.updateVolume «inv_rest» coeffs im s (now («inv_a» .entry)) rot inverted f ⌝ }
+    ensures { λ r. ⌜ r ≡ spec.updateVolume «inv_rest» coeffs im s (k .«inv_a») rot inverted f ⌝ }
 {
+    let inv_a = k.inv_a;
     let grad_vol = volumetric_gradient(f, inv_rest);
     let w = volume_weight(grad_vol, im);
     let cfm_gain_vol = w * s.cfm_coeff_vol;
     let b = coupling(rot, grad_vol, im, coeffs);
-    let z = mat_vec(inv_a, &b);
+    let z = mat_vec(&inv_a, &b);
     let rhs_vol = volume_bias(s, inverted, f);
     let inv_s = inv_schur(s.volumetric, w, cfm_gain_vol, &b, &z);
     Volume {

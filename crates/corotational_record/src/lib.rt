@@ -1,18 +1,20 @@
-// The phases of a corotational row on the bytes of its record, in place. Each reads what it uses and writes what it assigns. An update writes all of
+// A corotational row read from its record in its parts, each when it is used, and what each phase assigns put back into the record. An update puts all of
 // `pos`: a position that is not fetched as it was read.
 ghost use mathlib.Core.Path.{_≡_};
 ghost use Prim.Native.Nat.{_≤_};
 ghost use lib.ListN.{length};
+ghost use Rattle.records.specs.Layout as at;
+ghost use Rattle.cell.specs.Cell as cell;
 ghost use Rattle.corotational.specs.Row as c;
-ghost use Rattle.stored.specs.Read.{springsOf, volumeOf, corotationalOf};
-ghost use Rattle.stored.specs.Put.{putVolume};
-ghost use Rattle.stored.specs.Phases.{updateCorotational, warmCorotational, solveCorotational};
+ghost use Rattle.stored.specs.Read.{complianceOf, springsOf, volumeOf, corotationalOf};
+ghost use Rattle.stored.specs.Put.{putFlag, putPose, putVolume};
 ghost use Rattle.corotational_record.specs.Parts.{volumeAnew, strainStepAt};
 use bytes::get_f32;
 use bytes::put_f32;
+use cell::Compliance;
+use cell::Pose;
 use cell::Solved;
 use cell_record::impulses_of;
-use cell_record::put_impulses;
 use corotational::Springs;
 use corotational::Volume;
 use floats::floats6_at;
@@ -43,6 +45,14 @@ fn springs_of(b: &[u8]) -> Springs
     }
 }
 
+fn compliance_of(b: &[u8]) -> Compliance
+    requires { ⌜ 618 ≤ length (now b) ⌝ }
+    ensures { λ r. ⌜ r ≡ complianceOf (now (b .entry)) ⌝ }
+{
+    let inv_a = floats36_at(b, layout::ELASTIC_INV_A);
+    Compliance { inv_a }
+}
+
 // With f the deformation gradient, and rot and `inverted` those of the same update.
 fn volume_anew(b: &[u8], rot: Mat3, inverted: bool, f: Mat3) -> Volume
     requires { ⌜ 618 ≤ length (now b) ⌝ }
@@ -52,8 +62,25 @@ fn volume_anew(b: &[u8], rot: Mat3, inverted: bool, f: Mat3) -> Volume
     let coeffs = four_at(b, layout::ELASTIC_COEFFS);
     let im = masses_at(b, layout::ROW_IM);
     let springs = springs_of(b);
-    let inv_a = floats36_at(b, layout::ELASTIC_INV_A);
-    corotational::volumetric::update_volume(inv_rest, coeffs, im, springs, &inv_a, rot, inverted, f)
+    let k = compliance_of(b);
+    corotational::volumetric::update_volume(inv_rest, coeffs, im, springs, k, rot, inverted, f)
+}
+
+// What an update assigns.
+pub struct Update {
+    pub pose: Pose,
+    pub volume: Volume,
+}
+
+pub fn updated(b: &[u8], held: Holds) -> Update
+    requires { ⌜ 618 ≤ length (now b) ⌝ }
+    ensures { λ r. ⌜ (r .pose ≡ c.update (corotationalOf (now (b .entry))) held .pose) × (r .volume ≡ c.update (corotationalOf (now (b .entry))) held .volume) ⌝ }
+{
+    let pos = cell_record::pos_anew(b, held);
+    let f = cell_record::deformation_anew(b, pos);
+    let pose = cell_record::posed_anew(b, pos, f);
+    let volume = volume_anew(b, pose.rot_mat, pose.inverted, f);
+    Update { pose, volume }
 }
 
 fn put_volume(b: &mut [u8], v: Volume)
@@ -70,23 +97,20 @@ fn put_volume(b: &mut [u8], v: Volume)
     put_f32(b, layout::CORO_INV_S, v.inv_s);
 }
 
-pub fn update_corotational(b: &mut [u8], held: Holds, least: f32)
+pub fn put_updated(b: &mut [u8], u: Update, least: f32)
     requires { ⌜ 618 ≤ length (now b) ⌝ }
-    ensures { λ _. ⌜ now (b .exit) ≡ updateCorotational least held (now (b .entry)) ⌝ }
+    ensures { λ _. ⌜ now (b .exit) ≡ putFlag (putVolume (u .volume) (putPose (u .pose) (now (b .entry)))) at.rowStrained (cell.isStrained (u .pose .strain) least) ⌝ }
 {
-    let pos = cell_record::pos_anew(b, held);
-    let f = cell_record::deformation_anew(b, pos);
-    let pose = cell_record::posed_anew(b, pos, f);
-    let volume = volume_anew(b, pose.rot_mat, pose.inverted, f);
+    let pose = u.pose;
     let strain = pose.strain;
     cell_record::put_pose(b, pose);
-    put_volume(b, volume);
+    put_volume(b, u.volume);
     cell_record::put_strained(b, &strain, least);
 }
 
 // ---- warm start
 
-fn warmed(b: &[u8], coeff: f32) -> Solved
+pub fn warmed(b: &[u8], coeff: f32) -> Solved
     requires { ⌜ 618 ≤ length (now b) ⌝ }
     ensures { λ r. ⌜ r ≡ c.warmstart (corotationalOf (now (b .entry))) coeff ⌝ }
 {
@@ -96,16 +120,6 @@ fn warmed(b: &[u8], coeff: f32) -> Solved
     let l = impulses_of(b);
     let grad = four_at(b, layout::CORO_GRAD_VOL);
     corotational::block::warmstart_corotational(rot, coeffs, im, l, grad, coeff)
-}
-
-// The loss of each place is returned.
-pub fn warm_corotational(b: &mut [u8], coeff: f32) -> Four
-    requires { ⌜ 618 ≤ length (now b) ⌝ }
-    ensures { λ r. ⌜ (now (b .exit) ≡ warmCorotational coeff (now (b .entry))) × (r ≡ c.warmstart (corotationalOf (now (b .entry))) coeff .loss) ⌝ }
-{
-    let s = warmed(b, coeff);
-    put_impulses(b, s.impulses);
-    s.loss
 }
 
 // ---- solve
@@ -139,7 +153,7 @@ fn strain_step(b: &[u8], rot: Mat3, coeffs: Four, impulse: &[f32; 6], vel: Holds
     cell_record::eased_at(b, &res)
 }
 
-fn solved(b: &[u8], vel: Holds) -> Solved
+pub fn solved(b: &[u8], vel: Holds) -> Solved
     requires { ⌜ 618 ≤ length (now b) ⌝ }
     ensures { λ r. ⌜ r ≡ c.solve (corotationalOf (now (b .entry))) vel ⌝ }
 {
@@ -151,13 +165,4 @@ fn solved(b: &[u8], vel: Holds) -> Solved
     let y = strain_step(b, rot, coeffs, &impulse, vel);
     let u = volume_of(b);
     corotational::block::solve_rows(rot, coeffs, im, l, u, vel, &y)
-}
-
-pub fn solve_corotational(b: &mut [u8], vel: Holds) -> Four
-    requires { ⌜ 618 ≤ length (now b) ⌝ }
-    ensures { λ r. ⌜ (now (b .exit) ≡ solveCorotational vel (now (b .entry))) × (r ≡ c.solve (corotationalOf (now (b .entry))) vel .loss) ⌝ }
-{
-    let s = solved(b, vel);
-    put_impulses(b, s.impulses);
-    s.loss
 }

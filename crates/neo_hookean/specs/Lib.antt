@@ -1,4 +1,3 @@
 -- The neo-Hookean row. Assumes nothing.
 pub mod NeoHookean
-pub mod Renewal
 pub mod Row

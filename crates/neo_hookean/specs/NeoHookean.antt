@@ -46,11 +46,11 @@ block coeffs im m = add36 (matMul m (strainBlock coeffs im)) identity6
 unfoldable pub renewed : Four → Masses → Material → Energy → List Float → List Float → Block
 renewed coeffs im p e strain dtGrad =
     let m = stiffnessMatrix p e in
-    record { stiffness = record { «stiffness_strain» = strain; m = m; «dt_grad» = dtGrad }; «inv_a» = tryInverse (block coeffs im m) }
+    record { stiffness = record { «stiffness_strain» = strain; m = m; «dt_grad» = dtGrad }; compliance = record { «inv_a» = tryInverse (block coeffs im m) } }
 
 -- what any other update assigns: `dt_grad` alone
 abbrev pub kept : Stiffness → List Float → List Float → Block
-kept k invA dtGrad = record { stiffness = record { «stiffness_strain» = k .«stiffness_strain»; m = k .m; «dt_grad» = dtGrad }; «inv_a» = invA }
+kept k invA dtGrad = record { stiffness = record { «stiffness_strain» = k .«stiffness_strain»; m = k .m; «dt_grad» = dtGrad }; compliance = record { «inv_a» = invA } }
 
 unfoldable pub updateBlock : Four → Masses → Material → Stiffness → List Float → List Float → Block
 updateBlock coeffs im p k invA strain =

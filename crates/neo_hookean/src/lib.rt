@@ -2,13 +2,10 @@
 pub mod iteration; // the warm start and the solve
 pub mod renewal; // the stiffness and the block, kept or renewed
 
-ghost use mathlib.Core.Path.{_≡_};
-ghost use Rattle.neo_hookean.specs.Row as spec;
 use cell::Cell;
+use cell::Compliance;
 use cell::Impulses;
 use cell::Pose;
-use cell::Solved;
-use places::Holds;
 
 // Neo-Hookean: what no step alters.
 #[repr(C)]
@@ -31,64 +28,15 @@ pub struct Stiffness {
 pub struct NeoHookeanRow {
     pub cell: Cell,
     pub pose: Pose,
-    pub inv_a: [f32; 36],
+    pub compliance: Compliance,
     pub impulses: Impulses,
     pub material: Material,
     pub stiffness: Stiffness,
 }
 
-// The stiffness and the block's inverse, kept or renewed.
+// The stiffness and the block's inverse, renewed.
 #[repr(C)]
 pub struct Block {
     pub stiffness: Stiffness,
-    pub inv_a: [f32; 36],
-}
-
-pub fn update(r: NeoHookeanRow, held: Holds) -> NeoHookeanRow
-    ensures { λ t. ⌜ t ≡ spec.update r held ⌝ }
-{
-    let cell = r.cell;
-    let impulses = r.impulses;
-    let material = r.material;
-    let old = r.inv_a;
-    let pose = cell::update::update_pose(cell, r.pose, held);
-    let strain = pose.strain;
-    let k = renewal::update_block(cell.coeffs, cell.im, material, r.stiffness, &old, &strain);
-    let stiffness = k.stiffness;
-    let inv_a = k.inv_a;
-    NeoHookeanRow {
-        cell,
-        pose,
-        inv_a,
-        impulses,
-        material,
-        stiffness,
-    }
-}
-
-pub fn solve(r: NeoHookeanRow, vel: Holds) -> Solved
-    ensures { λ t. ⌜ t ≡ spec.solve r vel ⌝ }
-{
-    let cell = r.cell;
-    let k = r.stiffness;
-    let inv_a = r.inv_a;
-    let m = k.m;
-    let dt_grad = k.dt_grad;
-    iteration::solve_neo_hookean(
-        r.pose.rot_mat,
-        cell.coeffs,
-        cell.im,
-        &inv_a,
-        &m,
-        &dt_grad,
-        r.impulses,
-        vel,
-    )
-}
-
-pub fn warmstart(r: NeoHookeanRow, coeff: f32) -> Solved
-    ensures { λ t. ⌜ t ≡ spec.warmstart r coeff ⌝ }
-{
-    let cell = r.cell;
-    iteration::warmstart_neo_hookean(r.pose.rot_mat, cell.coeffs, cell.im, r.impulses, coeff)
+    pub compliance: Compliance,
 }

@@ -4,16 +4,15 @@ ghost use Rattle.neo_hookean.specs.NeoHookean as spec;
 use crate::Block;
 use crate::Material;
 use crate::Stiffness;
+use cell::Compliance;
 use cell::tensor::outer_sum;
 use cell::tensor::strain_block_from_g;
 use cell::tensor::weighted;
 use energy::Energy;
-use energy::hessian::gradient;
 use energy::hessian::hessian;
 use inverse::try_inverse;
 use places::Masses;
 use strain::add36;
-use strain::scale6;
 use strain::scale36;
 use vector::Four;
 
@@ -75,41 +74,6 @@ pub fn renewed(
             m,
             dt_grad: *dt_grad,
         },
-        inv_a,
+        compliance: Compliance { inv_a },
     }
-}
-
-fn kept(k: Stiffness, inv_a: &[f32; 36], dt_grad: &[f32; 6]) -> Block
-    ensures { λ r. ⌜ r ≡ spec.kept k (now («inv_a» .entry)) (now («dt_grad» .entry)) ⌝ }
-{
-    let stiffness_strain = k.stiffness_strain;
-    let m = k.m;
-    Block {
-        stiffness: Stiffness {
-            stiffness_strain,
-            m,
-            dt_grad: *dt_grad,
-        },
-        inv_a: *inv_a,
-    }
-}
-
-pub fn update_block(
-    coeffs: Four,
-    im: Masses,
-    p: Material,
-    k: Stiffness,
-    inv_a: &[f32; 36],
-    strain: &[f32; 6],
-) -> Block
-    ensures { λ r. ⌜ r ≡ spec.updateBlock coeffs im p k (now («inv_a» .entry)) (now (strain .entry)) ⌝ }
-{
-    let last = k.stiffness_strain;
-    let e = gradient(p.mu, p.lambda, strain);
-    let grad = e.grad;
-    let dt_grad = scale6(&grad, p.dt);
-    if is_fresh(strain, &last) {
-        return kept(k, inv_a, &dt_grad);
-    }
-    renewed(coeffs, im, p, e, strain, &dt_grad)
 }

@@ -1,17 +1,20 @@
-// The phases of a neo-Hookean row on the bytes of its record, in place. Each reads what it uses and writes what it assigns. An update writes all of
+// A neo-Hookean row read from its record in its parts, each when it is used, and what each phase assigns put back into the record. An update puts all of
 // `pos`: a position that is not fetched as it was read.
 ghost use mathlib.Core.Path.{_≡_};
 ghost use Prim.Native.Nat.{_≤_};
 ghost use lib.ListN.{length};
-ghost use Rattle.neo_hookean.specs.Row as n;
 ghost use Rattle.records.specs.Layout as at;
-ghost use Rattle.floats.specs.Fields.{floatsAt};
+ghost use Rattle.neo_hookean.specs.NeoHookean.{isFresh};
+ghost use Rattle.neo_hookean.specs.Row as n;
+ghost use Rattle.floats.specs.Fields.{floatsAt, putFloats};
 ghost use Rattle.stored.specs.Read.{materialOf, stiffnessOf, neoHookeanOf};
-ghost use Rattle.stored.specs.Phases.{updateNeoHookean, warmNeoHookean, solveNeoHookean};
+ghost use Rattle.stored.specs.Put.{putPose};
 ghost use Rattle.neo_hookean_record.specs.Parts as spec;
 use bytes::get_f32;
+use cell::Impulses;
 use cell::Pose;
 use cell::Solved;
+use cell::tensor::from_columns;
 use cell_record::impulses_of;
 use cell_record::put_pose;
 use energy::Energy;
@@ -61,62 +64,99 @@ fn material_of(b: &[u8]) -> Material
     }
 }
 
-fn block_anew(b: &[u8], e: Energy, strain: &[f32; 6], dt_grad: &[f32; 6]) -> Block
+// What an update finds. The block is renewed after a move, and otherwise neither read nor written.
+pub struct Update {
+    pub pose: Pose,
+    pub energy: Energy,
+    pub dt_grad: [f32; 6],
+}
+
+pub fn updated(b: &[u8], held: Holds) -> Update
     requires { ⌜ 678 ≤ length (now b) ⌝ }
-    ensures { λ r. ⌜ r ≡ spec.blockAnew e (now (strain .entry)) (now («dt_grad» .entry)) (now (b .entry)) ⌝ }
+    ensures { λ r. ⌜ r ≡ spec.updateAnew held (now (b .entry)) ⌝ }
 {
+    let pose = cell_record::pose_anew(b, held);
+    let strain = pose.strain;
+    let energy = energy_anew(b, &strain);
+    let dt_grad = dt_grad_anew(b, energy);
+    Update {
+        pose,
+        energy,
+        dt_grad,
+    }
+}
+
+pub fn is_kept(b: &[u8], u: Update) -> bool
+    requires { ⌜ 678 ≤ length (now b) ⌝ }
+    ensures { λ r. ⌜ r ≡ isFresh (u .pose .strain) (floatsAt 6 (now (b .entry)) at.neoStiffnessStrain) ⌝ }
+{
+    let pose = u.pose;
+    let strain = pose.strain;
+    let last = floats6_at(b, layout::NEO_STIFFNESS_STRAIN);
+    neo_hookean::renewal::is_fresh(&strain, &last)
+}
+
+pub fn renewed(b: &[u8], u: Update) -> Block
+    requires { ⌜ 678 ≤ length (now b) ⌝ }
+    ensures { λ r. ⌜ r ≡ spec.blockAnew (u .energy) (u .pose .strain) (u .«dt_grad») (now (b .entry)) ⌝ }
+{
+    let pose = u.pose;
+    let strain = pose.strain;
+    let dt_grad = u.dt_grad;
     let coeffs = four_at(b, layout::ELASTIC_COEFFS);
     let im = masses_at(b, layout::ROW_IM);
     let p = material_of(b);
-    neo_hookean::renewal::renewed(coeffs, im, p, e, strain, dt_grad)
+    neo_hookean::renewal::renewed(coeffs, im, p, u.energy, &strain, &dt_grad)
 }
 
-// `dt_grad` is put apart: it is put where the block is kept, too.
-fn put_renewed(b: &mut [u8], k: Block)
+fn put_block(b: &mut [u8], k: Block)
     requires { ⌜ 678 ≤ length (now b) ⌝ }
     ensures { λ _. ⌜ now (b .exit) ≡ spec.putAnew k (now (b .entry)) ⌝ }
 {
     let s = k.stiffness;
     let strain = s.stiffness_strain;
     let m = s.m;
-    let inv_a = k.inv_a;
+    let c = k.compliance;
+    let inv_a = c.inv_a;
     put_floats6(b, layout::NEO_STIFFNESS_STRAIN, &strain);
     put_floats36(b, layout::NEO_M, &m);
     put_floats36(b, layout::ELASTIC_INV_A, &inv_a);
 }
 
-// Where the block is kept, it is neither read nor written.
-fn put_moved(b: &mut [u8], pose: Pose, e: Energy, dt_grad: &[f32; 6])
+// What is put last, whether the block is kept or renewed.
+fn put_strains(b: &mut [u8], u: Update, least: f32)
     requires { ⌜ 678 ≤ length (now b) ⌝ }
-    ensures { λ _. ⌜ now (b .exit) ≡ spec.putMoved pose e (now («dt_grad» .entry)) (now (b .entry)) ⌝ }
+    ensures { λ _. ⌜ now (b .exit) ≡ spec.putStrains u least (now (b .entry)) ⌝ }
 {
+    let pose = u.pose;
     let strain = pose.strain;
-    let last = floats6_at(b, layout::NEO_STIFFNESS_STRAIN);
-    if neo_hookean::renewal::is_fresh(&strain, &last) {
-        put_pose(b, pose);
-        return;
-    }
-    let k = block_anew(b, e, &strain, dt_grad);
-    put_pose(b, pose);
-    put_renewed(b, k);
-}
-
-pub fn update_neo_hookean(b: &mut [u8], held: Holds, least: f32)
-    requires { ⌜ 678 ≤ length (now b) ⌝ }
-    ensures { λ _. ⌜ now (b .exit) ≡ updateNeoHookean least held (now (b .entry)) ⌝ }
-{
-    let pose = cell_record::pose_anew(b, held);
-    let strain = pose.strain;
-    let e = energy_anew(b, &strain);
-    let dt_grad = dt_grad_anew(b, e);
-    put_moved(b, pose, e, &dt_grad);
+    let dt_grad = u.dt_grad;
     put_floats6(b, layout::NEO_DT_GRAD, &dt_grad);
     cell_record::put_strained(b, &strain, least);
 }
 
+pub fn put_kept(b: &mut [u8], u: Update, least: f32)
+    requires { ⌜ 678 ≤ length (now b) ⌝ }
+    ensures { λ _. ⌜ now (b .exit) ≡ spec.putStrains u least (putPose (u .pose) (now (b .entry))) ⌝ }
+{
+    let pose = u.pose;
+    put_pose(b, pose);
+    put_strains(b, u, least);
+}
+
+pub fn put_renewed(b: &mut [u8], u: Update, k: Block, least: f32)
+    requires { ⌜ 678 ≤ length (now b) ⌝ }
+    ensures { λ _. ⌜ now (b .exit) ≡ spec.putStrains u least (spec.putAnew k (putPose (u .pose) (now (b .entry)))) ⌝ }
+{
+    let pose = u.pose;
+    put_pose(b, pose);
+    put_block(b, k);
+    put_strains(b, u, least);
+}
+
 // ---- warm start
 
-fn warmed(b: &[u8], coeff: f32) -> Solved
+pub fn warmed(b: &[u8], coeff: f32) -> Solved
     requires { ⌜ 678 ≤ length (now b) ⌝ }
     ensures { λ r. ⌜ r ≡ n.warmstart (neoHookeanOf (now (b .entry))) coeff ⌝ }
 {
@@ -127,44 +167,20 @@ fn warmed(b: &[u8], coeff: f32) -> Solved
     neo_hookean::iteration::warmstart_neo_hookean(rot, coeffs, im, l, coeff)
 }
 
-// The loss of each place is returned.
-pub fn warm_neo_hookean(b: &mut [u8], coeff: f32) -> Four
-    requires { ⌜ 678 ≤ length (now b) ⌝ }
-    ensures { λ r. ⌜ (now (b .exit) ≡ warmNeoHookean coeff (now (b .entry))) × (r ≡ n.warmstart (neoHookeanOf (now (b .entry))) coeff .loss) ⌝ }
-{
-    let s = warmed(b, coeff);
-    cell_record::put_impulses(b, s.impulses);
-    s.loss
-}
-
 // ---- solve
-
-fn m_of(b: &[u8]) -> [f32; 36]
-    requires { ⌜ 678 ≤ length (now b) ⌝ }
-    ensures { λ r. ⌜ r ≡ floatsAt 36 (now (b .entry)) at.neoM ⌝ }
-{
-    let c0 = floats6_at(b, layout::NEO_M);
-    let c1 = floats6_at(b, layout::NEO_M + 24);
-    let c2 = floats6_at(b, layout::NEO_M + 48);
-    let c3 = floats6_at(b, layout::NEO_M + 72);
-    let c4 = floats6_at(b, layout::NEO_M + 96);
-    let c5 = floats6_at(b, layout::NEO_M + 120);
-    let mut m = [0.0f32; 36];
-    strain::set_column(&mut m, 0, &c0);
-    strain::set_column(&mut m, 1, &c1);
-    strain::set_column(&mut m, 2, &c2);
-    strain::set_column(&mut m, 3, &c3);
-    strain::set_column(&mut m, 4, &c4);
-    strain::set_column(&mut m, 5, &c5);
-    m
-}
 
 fn stiffness_of(b: &[u8]) -> Stiffness
     requires { ⌜ 678 ≤ length (now b) ⌝ }
     ensures { λ r. ⌜ r ≡ stiffnessOf (now (b .entry)) ⌝ }
 {
     let stiffness_strain = floats6_at(b, layout::NEO_STIFFNESS_STRAIN);
-    let m = m_of(b);
+    let c0 = floats6_at(b, layout::NEO_M);
+    let c1 = floats6_at(b, layout::NEO_M + 24);
+    let c2 = floats6_at(b, layout::NEO_M + 48);
+    let c3 = floats6_at(b, layout::NEO_M + 72);
+    let c4 = floats6_at(b, layout::NEO_M + 96);
+    let c5 = floats6_at(b, layout::NEO_M + 120);
+    let m = from_columns(&c0, &c1, &c2, &c3, &c4, &c5);
     let dt_grad = floats6_at(b, layout::NEO_DT_GRAD);
     Stiffness {
         stiffness_strain,
@@ -179,15 +195,11 @@ fn strain_step(b: &[u8], rot: Mat3, coeffs: Four, impulse: &[f32; 6], vel: Holds
     ensures { λ r. ⌜ r ≡ spec.strainStepAt rot coeffs (now (impulse .entry)) vel (now (b .entry)) ⌝ }
 {
     let rate = cell::solve::strain_rates(rot, coeffs, vel);
-    let k = stiffness_of(b);
-    let m = k.m;
-    let dt_grad = k.dt_grad;
-    let pull = strain::mat_vec(&m, &rate);
-    let res = neo_hookean::iteration::residual(&pull, &dt_grad, impulse);
-    cell_record::eased_at(b, &res)
+    let residual = neo_hookean::iteration::pulled(stiffness_of(b), &rate, impulse);
+    cell_record::eased_at(b, &residual)
 }
 
-fn solved(b: &[u8], vel: Holds) -> Solved
+pub fn solved(b: &[u8], vel: Holds) -> Solved
     requires { ⌜ 678 ≤ length (now b) ⌝ }
     ensures { λ r. ⌜ r ≡ n.solve (neoHookeanOf (now (b .entry))) vel ⌝ }
 {
@@ -201,13 +213,10 @@ fn solved(b: &[u8], vel: Holds) -> Solved
 }
 
 // The volumetric impulse is not written: this model never uses it.
-pub fn solve_neo_hookean(b: &mut [u8], vel: Holds) -> Four
+pub fn put_solved(b: &mut [u8], l: Impulses)
     requires { ⌜ 678 ≤ length (now b) ⌝ }
-    ensures { λ r. ⌜ (now (b .exit) ≡ solveNeoHookean vel (now (b .entry))) × (r ≡ n.solve (neoHookeanOf (now (b .entry))) vel .loss) ⌝ }
+    ensures { λ _. ⌜ now (b .exit) ≡ putFloats 6 (now (b .entry)) at.elasticStrainImpulse (l .strain) ⌝ }
 {
-    let s = solved(b, vel);
-    let l = s.impulses;
     let strain = l.strain;
     put_floats6(b, layout::ELASTIC_STRAIN_IMPULSE, &strain);
-    s.loss
 }

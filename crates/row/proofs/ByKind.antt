@@ -11,16 +11,26 @@ use Rattle.bytes.specs.Bytes.{le16}
 use Rattle.vector.specs.declared.Four.{Four}
 use Rattle.places.specs.declared.Ids.{Ids}
 use Rattle.places.specs.declared.Holds.{Holds}
-use Rattle.floats.specs.Fields.{idsAt}
+use Rattle.floats.specs.Fields.{idsAt, floatsAt, putF32, putFloats}
 use Rattle.rows.specs.Row.{Constraint, scalar, corotational, neoHookean}
 use Rattle.rows.specs.Step.{updateOf, strainedOf, warmstartOf, solveOf}
 use Rattle.scalar.specs.Row as s
+use Rattle.scalar.specs.declared.SoftScalarConstraint.{SoftScalarConstraint}
+use Rattle.scalar.specs.declared.Solved as scalars
+use Rattle.cell.specs.Cell as cell
+use Rattle.cell.specs.declared.Solved.{Solved}
 use Rattle.corotational.specs.Row as c
+use Rattle.neo_hookean.specs.NeoHookean.{isFresh}
 use Rattle.neo_hookean.specs.Row as n
+use Rattle.neo_hookean.specs.declared.Block.{Block}
 use Rattle.stored.specs.Read.{constraintOf, scalarOf, corotationalOf, neoHookeanOf}
-use Rattle.records.specs.Layout.{rowStrained}
-use Rattle.stored.specs.Put.{putFlag, putConstraint, warmConstraint, solveConstraint}
-use Rattle.stored.specs.Phases.{countedIds, namesAt, updateRow, warmRow, warmLoss, solveRow, solveLoss, updateScalar, warmScalar, solveScalar, updateCorotational, warmCorotational, solveCorotational, updateNeoHookean, warmNeoHookean, solveNeoHookean}
+use Rattle.records.specs.Layout as at
+use Rattle.stored.specs.Put.{putFlag, putScalar, putPose, putVolume, putCorotational, putConstraint, putImpulses, warmConstraint, solveConstraint}
+use Rattle.stored.specs.Phases.{countedIds, namesAt, updateRow, warmRow, warmLoss, solveRow, solveLoss}
+use Rattle.corotational_record.specs.declared.Update as coro
+use Rattle.neo_hookean_record.specs.Parts as parts
+use Rattle.neo_hookean_record.specs.declared.Update as neo
+use Rattle.neo_hookean_record.proofs.Moved.{kept-is, renewed-is}
 use Rattle.row.specs.Widths.{rowLength}
 
 -- ---- room
@@ -53,9 +63,9 @@ module _ (b : List ℕ) (kind : ℕ) (k : kind ≡ le16 b 4) (i : Ids) (e : i �
   unfolding namesAt
   names-4 h = e ∙ simp (ne-eqb (le16 b 4) 3 (λ z. h (k ∙ z)))
 
--- ---- phases
+-- ---- phases: b is the record that was read, x the same when it is lent to be put into, ys what comes back
 
-module _ (b b′ : List ℕ) (kind : ℕ) (k : kind ≡ le16 b 4) where
+module _ {b x : List ℕ} (same : x ≡ b) {kind : ℕ} (k : kind ≡ le16 b 4) where
   is-3 : kind ≡ 3 → scalar (scalarOf b) ≡ constraintOf b
   unfolding constraintOf
   is-3 h = simp (eq-eqb (le16 b 4) 3 (sym k ∙ h))
@@ -70,50 +80,79 @@ module _ (b b′ : List ℕ) (kind : ℕ) (k : kind ≡ le16 b 4) where
 
   module _ (least : Float) (held : Holds) where
     abbrev updated : Constraint → List ℕ
-    updated q = let u = updateOf q held in putFlag (putConstraint u b) rowStrained (strainedOf u least)
+    updated q = let u = updateOf q held in putFlag (putConstraint u b) at.rowStrained (strainedOf u least)
 
-    pub update-3 : kind ≡ 3 → b′ ≡ updateScalar least held b → b′ ≡ updateRow least held b
-    unfolding updateRow updateScalar updateOf strainedOf putConstraint
-    update-3 h e = e ∙ ap updated (is-3 h)
+    pub update-3 : kind ≡ 3 → {r : SoftScalarConstraint} {ys : List ℕ} → r ≡ s.begin (scalarOf b) held → ys ≡ putFlag (putScalar r x) at.rowStrained (s.isStrained r least)
+        → ys ≡ updateRow least held b
+    unfolding updateRow updateOf strainedOf putConstraint
+    update-3 h d e = e ∙ (λ j. putFlag (putScalar (d j) (same j)) at.rowStrained (s.isStrained (d j) least)) ∙ ap updated (is-3 h)
 
-    pub update-4 : (kind ≡ 3 → ⊥) → kind ≡ 4 → b′ ≡ updateCorotational least held b → b′ ≡ updateRow least held b
-    unfolding updateRow updateCorotational updateOf strainedOf putConstraint
-    update-4 h g e = e ∙ ap updated (is-4 h g)
+    pub update-4 : (kind ≡ 3 → ⊥) → kind ≡ 4 → {u : coro.Update} {ys : List ℕ}
+        → (u .pose ≡ c.update (corotationalOf b) held .pose) × (u .volume ≡ c.update (corotationalOf b) held .volume)
+        → ys ≡ putFlag (putVolume (u .volume) (putPose (u .pose) x)) at.rowStrained (cell.isStrained (u .pose .strain) least) → ys ≡ updateRow least held b
+    unfolding updateRow updateOf strainedOf putConstraint putCorotational
+    update-4 h g d e =
+        e ∙ (λ j. putFlag (putVolume (d .1 j) (putPose (d .0 j) (same j))) at.rowStrained (cell.isStrained (d .0 j .strain) least)) ∙ ap updated (is-4 h g)
 
-    pub update-5 : (kind ≡ 3 → ⊥) → (kind ≡ 4 → ⊥) → b′ ≡ updateNeoHookean least held b → b′ ≡ updateRow least held b
-    unfolding updateRow updateNeoHookean updateOf strainedOf putConstraint
-    update-5 h g e = e ∙ ap updated (is-5 h g)
+    module _ (h : kind ≡ 3 → ⊥) (g : kind ≡ 4 → ⊥) {u : neo.Update} {fresh : Bool} {ys : List ℕ}
+        (found : u ≡ parts.updateAnew held b) (tested : fresh ≡ isFresh (u .pose .strain) (floatsAt 6 b at.neoStiffnessStrain)) where
+      pub kept-5 : fresh ≡ true → ys ≡ parts.putStrains u least (putPose (u .pose) x) → ys ≡ updateRow least held b
+      unfolding updateRow updateOf strainedOf putConstraint
+      kept-5 t e = kept-is least held b found tested t (e ∙ ap (λ (y : List ℕ). parts.putStrains u least (putPose (u .pose) y)) same) ∙ ap updated (is-5 h g)
 
-  module _ (x : Four) (coeff : Float) where
-    warmed : (q : Constraint) → q ≡ constraintOf b → b′ ≡ warmConstraint (warmstartOf q coeff .constraint) b → x ≡ warmstartOf q coeff .loss → (b′ ≡ warmRow coeff b) × (x ≡ warmLoss coeff b)
+      pub renewed-5 : {m : Block} → fresh ≡ false → m ≡ parts.blockAnew (u .energy) (u .pose .strain) (u .«dt_grad») b
+          → ys ≡ parts.putStrains u least (parts.putAnew m (putPose (u .pose) x)) → ys ≡ updateRow least held b
+      unfolding updateRow updateOf strainedOf putConstraint
+      renewed-5 {m} t d e = renewed-is least held b found tested t d (e ∙ ap (λ (y : List ℕ). parts.putStrains u least (parts.putAnew m (putPose (u .pose) y))) same) ∙ ap updated (is-5 h g)
+
+  module _ (coeff : Float) where
+    warmed : (q : Constraint) → q ≡ constraintOf b → (warmConstraint (warmstartOf q coeff .constraint) b ≡ warmRow coeff b) × (warmstartOf q coeff .loss ≡ warmLoss coeff b)
     unfolding warmRow warmLoss
-    warmed q h e f = (e ∙ ap (λ (y : Constraint). warmConstraint (warmstartOf y coeff .constraint) b) h, f ∙ ap (λ (y : Constraint). warmstartOf y coeff .loss) h)
+    warmed q h = (ap (λ (y : Constraint). warmConstraint (warmstartOf y coeff .constraint) b) h, ap (λ (y : Constraint). warmstartOf y coeff .loss) h)
 
-    pub warm-3 : kind ≡ 3 → b′ ≡ warmScalar coeff b → x ≡ s.warmstart (scalarOf b) coeff .loss → (b′ ≡ warmRow coeff b) × (x ≡ warmLoss coeff b)
-    unfolding warmScalar warmstartOf warmConstraint
-    warm-3 h = warmed (scalar (scalarOf b)) (is-3 h)
+    pub warm-3 : kind ≡ 3 → {d : scalars.Solved} {ys : List ℕ} → d ≡ s.warmstart (scalarOf b) coeff → ys ≡ putF32 x at.scalarImpulse (d .row .response .impulse)
+        → (ys ≡ warmRow coeff b) × (d .loss ≡ warmLoss coeff b)
+    unfolding warmstartOf warmConstraint
+    warm-3 h d e =
+        let w = warmed (scalar (scalarOf b)) (is-3 h) in
+        (e ∙ (λ j. putF32 (same j) at.scalarImpulse (d j .row .response .impulse)) ∙ w .0, ap (λ (y : scalars.Solved). y .loss) d ∙ w .1)
 
-    pub warm-4 : (kind ≡ 3 → ⊥) → kind ≡ 4 → b′ ≡ warmCorotational coeff b → x ≡ c.warmstart (corotationalOf b) coeff .loss → (b′ ≡ warmRow coeff b) × (x ≡ warmLoss coeff b)
-    unfolding warmCorotational warmstartOf warmConstraint
-    warm-4 h g = warmed (corotational (corotationalOf b)) (is-4 h g)
+    pub warm-4 : (kind ≡ 3 → ⊥) → kind ≡ 4 → {d : Solved} {ys : List ℕ} → d ≡ c.warmstart (corotationalOf b) coeff → ys ≡ putImpulses (d .impulses) x
+        → (ys ≡ warmRow coeff b) × (d .loss ≡ warmLoss coeff b)
+    unfolding warmstartOf warmConstraint
+    warm-4 h g d e =
+        let w = warmed (corotational (corotationalOf b)) (is-4 h g) in
+        (e ∙ (λ j. putImpulses (d j .impulses) (same j)) ∙ w .0, ap (λ (y : Solved). y .loss) d ∙ w .1)
 
-    pub warm-5 : (kind ≡ 3 → ⊥) → (kind ≡ 4 → ⊥) → b′ ≡ warmNeoHookean coeff b → x ≡ n.warmstart (neoHookeanOf b) coeff .loss → (b′ ≡ warmRow coeff b) × (x ≡ warmLoss coeff b)
-    unfolding warmNeoHookean warmstartOf warmConstraint
-    warm-5 h g = warmed (neoHookean (neoHookeanOf b)) (is-5 h g)
+    pub warm-5 : (kind ≡ 3 → ⊥) → (kind ≡ 4 → ⊥) → {d : Solved} {ys : List ℕ} → d ≡ n.warmstart (neoHookeanOf b) coeff → ys ≡ putImpulses (d .impulses) x
+        → (ys ≡ warmRow coeff b) × (d .loss ≡ warmLoss coeff b)
+    unfolding warmstartOf warmConstraint
+    warm-5 h g d e =
+        let w = warmed (neoHookean (neoHookeanOf b)) (is-5 h g) in
+        (e ∙ (λ j. putImpulses (d j .impulses) (same j)) ∙ w .0, ap (λ (y : Solved). y .loss) d ∙ w .1)
 
-  module _ (x : Four) (vel : Holds) where
-    solved : (q : Constraint) → q ≡ constraintOf b → b′ ≡ solveConstraint (solveOf q vel .constraint) b → x ≡ solveOf q vel .loss → (b′ ≡ solveRow vel b) × (x ≡ solveLoss vel b)
+  module _ (vel : Holds) where
+    solved : (q : Constraint) → q ≡ constraintOf b → (solveConstraint (solveOf q vel .constraint) b ≡ solveRow vel b) × (solveOf q vel .loss ≡ solveLoss vel b)
     unfolding solveRow solveLoss
-    solved q h e f = (e ∙ ap (λ (y : Constraint). solveConstraint (solveOf y vel .constraint) b) h, f ∙ ap (λ (y : Constraint). solveOf y vel .loss) h)
+    solved q h = (ap (λ (y : Constraint). solveConstraint (solveOf y vel .constraint) b) h, ap (λ (y : Constraint). solveOf y vel .loss) h)
 
-    pub solve-3 : kind ≡ 3 → b′ ≡ solveScalar vel b → x ≡ s.solve (scalarOf b) vel .loss → (b′ ≡ solveRow vel b) × (x ≡ solveLoss vel b)
-    unfolding solveScalar solveOf solveConstraint
-    solve-3 h = solved (scalar (scalarOf b)) (is-3 h)
+    pub solve-3 : kind ≡ 3 → {d : scalars.Solved} {ys : List ℕ} → d ≡ s.solve (scalarOf b) vel → ys ≡ putF32 x at.scalarImpulse (d .row .response .impulse)
+        → (ys ≡ solveRow vel b) × (d .loss ≡ solveLoss vel b)
+    unfolding solveOf solveConstraint
+    solve-3 h d e =
+        let w = solved (scalar (scalarOf b)) (is-3 h) in
+        (e ∙ (λ j. putF32 (same j) at.scalarImpulse (d j .row .response .impulse)) ∙ w .0, ap (λ (y : scalars.Solved). y .loss) d ∙ w .1)
 
-    pub solve-4 : (kind ≡ 3 → ⊥) → kind ≡ 4 → b′ ≡ solveCorotational vel b → x ≡ c.solve (corotationalOf b) vel .loss → (b′ ≡ solveRow vel b) × (x ≡ solveLoss vel b)
-    unfolding solveCorotational solveOf solveConstraint
-    solve-4 h g = solved (corotational (corotationalOf b)) (is-4 h g)
+    pub solve-4 : (kind ≡ 3 → ⊥) → kind ≡ 4 → {d : Solved} {ys : List ℕ} → d ≡ c.solve (corotationalOf b) vel → ys ≡ putImpulses (d .impulses) x
+        → (ys ≡ solveRow vel b) × (d .loss ≡ solveLoss vel b)
+    unfolding solveOf solveConstraint
+    solve-4 h g d e =
+        let w = solved (corotational (corotationalOf b)) (is-4 h g) in
+        (e ∙ (λ j. putImpulses (d j .impulses) (same j)) ∙ w .0, ap (λ (y : Solved). y .loss) d ∙ w .1)
 
-    pub solve-5 : (kind ≡ 3 → ⊥) → (kind ≡ 4 → ⊥) → b′ ≡ solveNeoHookean vel b → x ≡ n.solve (neoHookeanOf b) vel .loss → (b′ ≡ solveRow vel b) × (x ≡ solveLoss vel b)
-    unfolding solveNeoHookean solveOf solveConstraint
-    solve-5 h g = solved (neoHookean (neoHookeanOf b)) (is-5 h g)
+    pub solve-5 : (kind ≡ 3 → ⊥) → (kind ≡ 4 → ⊥) → {d : Solved} {ys : List ℕ} → d ≡ n.solve (neoHookeanOf b) vel → ys ≡ putFloats 6 x at.elasticStrainImpulse (d .impulses .strain)
+        → (ys ≡ solveRow vel b) × (d .loss ≡ solveLoss vel b)
+    unfolding solveOf solveConstraint
+    solve-5 h g d e =
+        let w = solved (neoHookean (neoHookeanOf b)) (is-5 h g) in
+        (e ∙ (λ j. putFloats 6 (same j) at.elasticStrainImpulse (d j .impulses .strain)) ∙ w .0, ap (λ (y : Solved). y .loss) d ∙ w .1)

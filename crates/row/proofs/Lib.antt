@@ -1,2 +1,3 @@
--- A row of each kind. Assumes nothing.
+-- A row of each kind, and its record in a frame. Assumes nothing.
 pub mod ByKind
+pub mod InFrame

@@ -1,2 +1,3 @@
--- One row on the bytes of its record. Assumes nothing.
+-- One row in its frame. Assumes nothing.
 pub mod Widths
+pub mod InFrame

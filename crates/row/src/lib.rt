@@ -1,11 +1,13 @@
-// One row on the bytes of its record, by its kind: 3 scalar, 4 corotational, 5 neo-Hookean.
+// One row in its frame, by its kind: 3 scalar, 4 corotational, 5 neo-Hookean.
 ghost use mathlib.Core.Path.{_≡_};
 ghost use Prim.Native.Nat.{ℕ, _≤_};
 ghost use lib.ListN.{length};
 ghost use Rattle.bytes.specs.Bytes.{le16};
 ghost use Rattle.rows.specs.Row as rows;
 ghost use Rattle.stored.specs.Phases as spec;
+ghost use Rattle.records.specs.Records.{recordAt};
 ghost use Rattle.row.specs.Widths.{rowLength};
+ghost use Rattle.row.specs.InFrame.{Stands, onRecord};
 use places::Holds;
 use places::Ids;
 use records::layout;
@@ -40,47 +42,80 @@ pub fn names_at(b: &[u8]) -> Ids
     i
 }
 
-pub fn update_row(b: &mut [u8], held: Holds, least: f32)
+// Whether the row's flag is set.
+pub fn is_strained(b: &[u8]) -> bool
     requires { ⌜ rowLength (le16 (now b) 4) ≤ length (now b) ⌝ }
-    ensures { λ _. ⌜ now (b .exit) ≡ spec.updateRow least held (now (b .entry)) ⌝ }
+    ensures { λ r. ⌜ r ≡ spec.isStrainedAt (now (b .entry)) ⌝ }
 {
+    bytes::get_u16(b, layout::ROW_STRAINED) == 1
+}
+
+// ---- the phases. The record stands at off and ends at e. It is taken as a part of the frame and read from there; what the phase assigns is put after that
+
+pub fn update_row(s: &mut [u8], off: usize, e: usize, held: Holds, least: f32)
+    requires { ⌜ Stands off e (now s) ⌝ }
+    ensures { λ _. ⌜ now (s .exit) ≡ onRecord off (spec.updateRow least held) (now (s .entry)) ⌝ }
+{
+    let b = records::record_at(s, off);
     let kind = bytes::get_u16(b, layout::KIND_AT);
     if kind == 3 {
-        scalar_record::update_scalar(b, held, least);
+        let r = scalar_record::begun(b, held);
+        scalar_record::put_begun(&mut s[off..e], r, least);
         return;
     }
     if kind == 4 {
-        corotational_record::update_corotational(b, held, least);
+        let u = corotational_record::updated(b, held);
+        corotational_record::put_updated(&mut s[off..e], u, least);
         return;
     }
-    neo_hookean_record::update_neo_hookean(b, held, least);
+    let u = neo_hookean_record::updated(b, held);
+    if neo_hookean_record::is_kept(b, u) {
+        neo_hookean_record::put_kept(&mut s[off..e], u, least);
+        return;
+    }
+    let k = neo_hookean_record::renewed(b, u);
+    neo_hookean_record::put_renewed(&mut s[off..e], u, k, least);
 }
 
 // What each place is to lose.
-pub fn warm_row(b: &mut [u8], coeff: f32) -> Four
-    requires { ⌜ rowLength (le16 (now b) 4) ≤ length (now b) ⌝ }
-    ensures { λ r. ⌜ (now (b .exit) ≡ spec.warmRow coeff (now (b .entry))) × (r ≡ spec.warmLoss coeff (now (b .entry))) ⌝ }
+pub fn warm_row(s: &mut [u8], off: usize, e: usize, coeff: f32) -> Four
+    requires { ⌜ Stands off e (now s) ⌝ }
+    ensures { λ r. ⌜ (now (s .exit) ≡ onRecord off (spec.warmRow coeff) (now (s .entry))) × (r ≡ spec.warmLoss coeff (recordAt (now (s .entry)) off)) ⌝ }
 {
+    let b = records::record_at(s, off);
     let kind = bytes::get_u16(b, layout::KIND_AT);
     if kind == 3 {
-        return scalar_record::warm_scalar(b, coeff);
+        let d = scalar_record::warmed(b, coeff);
+        scalar_record::put_impulse(&mut s[off..e], d.row);
+        return d.loss;
     }
     if kind == 4 {
-        return corotational_record::warm_corotational(b, coeff);
+        let d = corotational_record::warmed(b, coeff);
+        cell_record::put_impulses(&mut s[off..e], d.impulses);
+        return d.loss;
     }
-    neo_hookean_record::warm_neo_hookean(b, coeff)
+    let d = neo_hookean_record::warmed(b, coeff);
+    cell_record::put_impulses(&mut s[off..e], d.impulses);
+    d.loss
 }
 
-pub fn solve_row(b: &mut [u8], vel: Holds) -> Four
-    requires { ⌜ rowLength (le16 (now b) 4) ≤ length (now b) ⌝ }
-    ensures { λ r. ⌜ (now (b .exit) ≡ spec.solveRow vel (now (b .entry))) × (r ≡ spec.solveLoss vel (now (b .entry))) ⌝ }
+pub fn solve_row(s: &mut [u8], off: usize, e: usize, vel: Holds) -> Four
+    requires { ⌜ Stands off e (now s) ⌝ }
+    ensures { λ r. ⌜ (now (s .exit) ≡ onRecord off (spec.solveRow vel) (now (s .entry))) × (r ≡ spec.solveLoss vel (recordAt (now (s .entry)) off)) ⌝ }
 {
+    let b = records::record_at(s, off);
     let kind = bytes::get_u16(b, layout::KIND_AT);
     if kind == 3 {
-        return scalar_record::solve_scalar(b, vel);
+        let d = scalar_record::solved(b, vel);
+        scalar_record::put_impulse(&mut s[off..e], d.row);
+        return d.loss;
     }
     if kind == 4 {
-        return corotational_record::solve_corotational(b, vel);
+        let d = corotational_record::solved(b, vel);
+        cell_record::put_impulses(&mut s[off..e], d.impulses);
+        return d.loss;
     }
-    neo_hookean_record::solve_neo_hookean(b, vel)
+    let d = neo_hookean_record::solved(b, vel);
+    neo_hookean_record::put_solved(&mut s[off..e], d.impulses);
+    d.loss
 }

@@ -1,12 +1,13 @@
-// One scalar row's update, warm start and solve on the bytes of its record, in place. What is written are the fields that the Rust
-// assigns; an update writes the rest of `pos` and `grad` with them, as it was read: a position that is not fetched, a gradient that a distance row does not assign.
+// A scalar row read from its record, its phases on the row as a struct, and what each phase assigns put back into the record. An update puts the rest
+// of `pos` and `grad` with them, as it was read: a position that is not fetched, a gradient that a distance row does not assign.
 ghost use mathlib.Core.Path.{_≡_};
 ghost use Prim.Native.Nat.{_≤_};
 ghost use lib.ListN.{length};
+ghost use Rattle.records.specs.Layout as at;
 ghost use Rattle.scalar.specs.Row as s;
+ghost use Rattle.floats.specs.Fields.{putF32};
 ghost use Rattle.stored.specs.Read.{springAt, responseAt, scalarOf};
-ghost use Rattle.stored.specs.Put.{putResponse, putScalar};
-ghost use Rattle.stored.specs.Phases.{updateScalar, warmScalar, solveScalar};
+ghost use Rattle.stored.specs.Put.{putFlag, putResponse, putScalar};
 use bytes::get_f32;
 use bytes::get_u16;
 use bytes::put_f32;
@@ -17,9 +18,9 @@ use places::Holds;
 use records::layout;
 use scalar::Response;
 use scalar::SoftScalarConstraint;
+use scalar::Solved;
 use scalar::Spring;
 use stored::put_flag;
-use vector::Four;
 
 // ---- read
 
@@ -55,7 +56,39 @@ fn response_at(b: &[u8]) -> Response
     }
 }
 
-fn scalar_of(b: &[u8]) -> SoftScalarConstraint
+// The whole row. It stands three times, once for each phase: a function with one caller is compiled into it, and the fields that the phase does not use
+// are never read. One function for all three made scalar sheets take up to twice as long.
+fn row_to_update(b: &[u8]) -> SoftScalarConstraint
+    requires { ⌜ 182 ≤ length (now b) ⌝ }
+    ensures { λ r. ⌜ r ≡ scalarOf (now (b .entry)) ⌝ }
+{
+    SoftScalarConstraint {
+        kind: wide(get_u16(b, layout::SCALAR_TYPE)),
+        count: wide(get_u16(b, layout::SCALAR_COUNT)),
+        pos: four_at(b, layout::ROW_POS),
+        im: masses_at(b, layout::ROW_IM),
+        grad: four_at(b, layout::SCALAR_GRAD),
+        spring: spring_at(b),
+        response: response_at(b),
+    }
+}
+
+fn row_to_warm(b: &[u8]) -> SoftScalarConstraint
+    requires { ⌜ 182 ≤ length (now b) ⌝ }
+    ensures { λ r. ⌜ r ≡ scalarOf (now (b .entry)) ⌝ }
+{
+    SoftScalarConstraint {
+        kind: wide(get_u16(b, layout::SCALAR_TYPE)),
+        count: wide(get_u16(b, layout::SCALAR_COUNT)),
+        pos: four_at(b, layout::ROW_POS),
+        im: masses_at(b, layout::ROW_IM),
+        grad: four_at(b, layout::SCALAR_GRAD),
+        spring: spring_at(b),
+        response: response_at(b),
+    }
+}
+
+fn row_to_solve(b: &[u8]) -> SoftScalarConstraint
     requires { ⌜ 182 ≤ length (now b) ⌝ }
     ensures { λ r. ⌜ r ≡ scalarOf (now (b .entry)) ⌝ }
 {
@@ -91,49 +124,41 @@ fn put_scalar(b: &mut [u8], r: SoftScalarConstraint)
     put_response(b, r.response);
 }
 
-// ---- the phases
+// ---- the phases: what each makes of the row, and what it puts
 
-pub fn update_scalar(b: &mut [u8], held: Holds, least: f32)
+pub fn begun(b: &[u8], held: Holds) -> SoftScalarConstraint
     requires { ⌜ 182 ≤ length (now b) ⌝ }
-    ensures { λ _. ⌜ now (b .exit) ≡ updateScalar least held (now (b .entry)) ⌝ }
+    ensures { λ r. ⌜ r ≡ s.begin (scalarOf (now (b .entry))) held ⌝ }
 {
-    let r = scalar::begin(scalar_of(b), held);
+    scalar::begin(row_to_update(b), held)
+}
+
+pub fn put_begun(b: &mut [u8], r: SoftScalarConstraint, least: f32)
+    requires { ⌜ 182 ≤ length (now b) ⌝ }
+    ensures { λ _. ⌜ now (b .exit) ≡ putFlag (putScalar r (now (b .entry))) at.rowStrained (s.isStrained r least) ⌝ }
+{
     put_scalar(b, r);
     put_flag(b, layout::ROW_STRAINED, scalar::is_strained(r, least));
 }
 
-// A warm start and a solve read only what they use of the record.
-pub fn warm_scalar(b: &mut [u8], coeff: f32) -> Four
+pub fn warmed(b: &[u8], coeff: f32) -> Solved
     requires { ⌜ 182 ≤ length (now b) ⌝ }
-    ensures { λ r. ⌜ (now (b .exit) ≡ warmScalar coeff (now (b .entry))) × (r ≡ s.warmstart (scalarOf (now (b .entry))) coeff .loss) ⌝ }
+    ensures { λ r. ⌜ r ≡ s.warmstart (scalarOf (now (b .entry))) coeff ⌝ }
 {
-    let impulse = get_f32(b, layout::SCALAR_IMPULSE) * coeff;
-    let grad = four_at(b, layout::SCALAR_GRAD);
-    let im = masses_at(b, layout::ROW_IM);
-    put_f32(b, layout::SCALAR_IMPULSE, impulse);
-    scalar::losses(grad, im, impulse)
+    scalar::warmstart(row_to_warm(b), coeff)
 }
 
-// The impulse's total for the rate dc.
-fn total_at(b: &[u8], dc: f32) -> f32
+pub fn solved(b: &[u8], vel: Holds) -> Solved
     requires { ⌜ 182 ≤ length (now b) ⌝ }
-    ensures { λ r. ⌜ r ≡ s.totalOf (springAt (now (b .entry))) (responseAt (now (b .entry))) dc ⌝ }
+    ensures { λ r. ⌜ r ≡ s.solve (scalarOf (now (b .entry))) vel ⌝ }
 {
-    real::clamp(
-        scalar::sought_of(response_at(b), dc),
-        get_f32(b, layout::SCALAR_LOWER),
-        get_f32(b, layout::SCALAR_UPPER),
-    )
+    scalar::solve(row_to_solve(b), vel)
 }
 
-pub fn solve_scalar(b: &mut [u8], vel: Holds) -> Four
+// What a warm start and a solve assign.
+pub fn put_impulse(b: &mut [u8], r: SoftScalarConstraint)
     requires { ⌜ 182 ≤ length (now b) ⌝ }
-    ensures { λ r. ⌜ (now (b .exit) ≡ solveScalar vel (now (b .entry))) × (r ≡ s.solve (scalarOf (now (b .entry))) vel .loss) ⌝ }
+    ensures { λ _. ⌜ now (b .exit) ≡ putF32 (now (b .entry)) at.scalarImpulse (r .response .impulse) ⌝ }
 {
-    let grad = four_at(b, layout::SCALAR_GRAD);
-    let im = masses_at(b, layout::ROW_IM);
-    let total = total_at(b, scalar::rate_of(grad, vel));
-    let impulse = get_f32(b, layout::SCALAR_IMPULSE);
-    put_f32(b, layout::SCALAR_IMPULSE, total);
-    scalar::losses(grad, im, total - impulse)
+    put_f32(b, layout::SCALAR_IMPULSE, r.response.impulse);
 }

@@ -125,7 +125,7 @@ module _ (b : List ℕ) where
   key-from = λ i. record { colour = le16 b 6; names = names-by (eqb (le16 b 4) 3) (eqb (le16 b 4) 4) i; im = masses-by (eqb (le16 b 4) 3) (eqb (le16 b 4) 4) i }
 
 module _ (b c : List ℕ) (h : Kept b c) where
-  le16-kept : (k : ℕ) → KeyByte k → KeyByte (k + 1) → le16 b k ≡ le16 c k
+  pub le16-kept : (k : ℕ) → KeyByte k → KeyByte (k + 1) → le16 b k ≡ le16 c k
   unfolding le16
   le16-kept k p q = rw (h k p, h (k + 1) q) refl
 
@@ -133,7 +133,7 @@ module _ (b c : List ℕ) (h : Kept b c) where
   unfolding le32
   le32-kept k p q r s = rw (h k p, h (k + 1) q, h (k + 2) r, h (k + 3) s) refl
 
-  id-kept : (k : ℕ) → 12 ≤ k → k + 3 < 30 → le32 b k ≡ le32 c k
+  pub id-kept : (k : ℕ) → 12 ≤ k → k + 3 < 30 → le32 b k ≡ le32 c k
   id-kept k l u = le32-kept k (inr (inl (omega arith, omega arith))) (inr (inl (omega arith, omega arith))) (inr (inl (omega arith, omega arith))) (inr (inl (omega arith, omega arith)))
 
   mass-kept : (k : ℕ) → 78 ≤ k → k + 3 < 94 → le32 b k ≡ le32 c k

@@ -93,9 +93,9 @@ renewed-kept s invA b k p =
     ∙ floats-kept 36 b1 at.neoM (s .m) (high 510 144 (omega arith)) k p
     ∙ floats-kept 6 b at.neoStiffnessStrain (s .«stiffness_strain») (high 486 24 (omega arith)) k p
 
-block-kept : (r : NeoHookeanRow) (c : List ℕ) (t : Bool) → Kept (cond t c (putRenewed (r .stiffness) (r .«inv_a») c)) c
+block-kept : (r : NeoHookeanRow) (c : List ℕ) (t : Bool) → Kept (cond t c (putRenewed (r .stiffness) (r .compliance .«inv_a») c)) c
 block-kept r c true k p = refl
-block-kept r c false k p = renewed-kept (r .stiffness) (r .«inv_a») c k p
+block-kept r c false k p = renewed-kept (r .stiffness) (r .compliance .«inv_a») c k p
 
 neo-kept : (r : NeoHookeanRow) (b : List ℕ) → Kept (putNeoHookean r b) b
 unfolding putNeoHookean

@@ -1,4 +1,4 @@
--- One row's update, warm start and solve on the bytes of its record alone: what its places hold goes in; the record anew and what each place is to lose come out. The functions of the code are proved equal to these. The rules of the run are made without them (Points.antt), and PhaseLaws.antt has that the two agree. A reader of the rules does not need this file, least of all its part by kind. Definitions only. Assumes nothing.
+-- One row's update, warm start and solve on the bytes of its record alone: what its places hold goes in; the record anew and what each place is to lose come out. The functions of the code are proved equal to these. The rules of the run are made without them (Points.antt), and PhaseLaws.antt has that the two agree. A reader of the rules does not need this file. Definitions only. Assumes nothing.
 use Prim.Native.Nat.{ℕ}
 use mathlib.Core.Bool.{Bool, cond}
 use mathlib.Core.List.{List}
@@ -9,19 +9,11 @@ use Rattle.vector.specs.declared.Four.{Four}
 use Rattle.places.specs.declared.Ids.{Ids}
 use Rattle.places.specs.declared.Holds.{Holds}
 use Rattle.records.specs.Layout as at
-use Rattle.scalar.specs.Row as s
-use Rattle.scalar.specs.declared.SoftScalarConstraint.{SoftScalarConstraint}
-use Rattle.cell.specs.Cell as cell
-use Rattle.cell.specs.declared.Impulses.{Impulses}
-use Rattle.corotational.specs.Row as c
-use Rattle.corotational.specs.declared.CorotationalRow.{CorotationalRow}
-use Rattle.neo_hookean.specs.Row as n
-use Rattle.neo_hookean.specs.declared.NeoHookeanRow.{NeoHookeanRow}
-use Rattle.rows.specs.Row.{Constraint, counted}
+use Rattle.rows.specs.Row.{counted}
 use Rattle.rows.specs.Step.{updateOf, strainedOf, warmstartOf, solveOf}
-use Rattle.floats.specs.Fields.{idsAt, putF32, putFloats}
-use Rattle.stored.specs.Read.{scalarOf, corotationalOf, neoHookeanOf, constraintOf}
-use Rattle.stored.specs.Put.{putFlag, putScalar, putCorotational, putNeoHookean, putConstraint, putImpulses, warmConstraint, solveConstraint}
+use Rattle.floats.specs.Fields.{idsAt}
+use Rattle.stored.specs.Read.{constraintOf}
+use Rattle.stored.specs.Put.{putFlag, putConstraint, warmConstraint, solveConstraint}
 
 -- ---- the ids that a row names: a scalar row its first `count`, an elastic row all four. A place that is not named counts as 0xFFFFFFFF
 
@@ -51,35 +43,3 @@ solveRow vel b = solveConstraint (solveOf (constraintOf b) vel .constraint) b
 
 unfoldable pub solveLoss : Holds → List ℕ → Four
 solveLoss vel b = solveOf (constraintOf b) vel .loss
-
--- ---- the same by kind: what the code of each kind is proved equal to
-
-unfoldable pub updateScalar : Float → Holds → List ℕ → List ℕ
-updateScalar least held b = let r : SoftScalarConstraint = s.begin (scalarOf b) held in putFlag (putScalar r b) at.rowStrained (s.isStrained r least)
-
-unfoldable pub warmScalar : Float → List ℕ → List ℕ
-warmScalar coeff b = putF32 b at.scalarImpulse (s.warmstart (scalarOf b) coeff .row .response .impulse)
-
-unfoldable pub solveScalar : Holds → List ℕ → List ℕ
-solveScalar vel b = putF32 b at.scalarImpulse (s.solve (scalarOf b) vel .row .response .impulse)
-
-unfoldable pub updateCorotational : Float → Holds → List ℕ → List ℕ
-updateCorotational least held b =
-    let r : CorotationalRow = c.update (corotationalOf b) held in putFlag (putCorotational r b) at.rowStrained (cell.isStrained (r .pose .strain) least)
-
-unfoldable pub warmCorotational : Float → List ℕ → List ℕ
-warmCorotational coeff b = putImpulses (c.warmstart (corotationalOf b) coeff .impulses) b
-
-unfoldable pub solveCorotational : Holds → List ℕ → List ℕ
-solveCorotational vel b = putImpulses (c.solve (corotationalOf b) vel .impulses) b
-
-unfoldable pub updateNeoHookean : Float → Holds → List ℕ → List ℕ
-updateNeoHookean least held b =
-    let r : NeoHookeanRow = n.update (neoHookeanOf b) held in putFlag (putNeoHookean r b) at.rowStrained (cell.isStrained (r .pose .strain) least)
-
-unfoldable pub warmNeoHookean : Float → List ℕ → List ℕ
-warmNeoHookean coeff b = putImpulses (n.warmstart (neoHookeanOf b) coeff .impulses) b
-
--- a neo-Hookean solve assigns no volumetric impulse
-unfoldable pub solveNeoHookean : Holds → List ℕ → List ℕ
-solveNeoHookean vel b = putFloats 6 b at.elasticStrainImpulse (n.solve (neoHookeanOf b) vel .impulses .strain)

@@ -53,7 +53,7 @@ putRenewed s invA b = putFloats 36 (putFloats 36 (putFloats 6 b at.neoStiffnessS
 
 -- b is the record as it was: it says at which strain the stiffness was computed
 abbrev pub putBlock : NeoHookeanRow → List ℕ → List ℕ → List ℕ
-putBlock r b c = cond (isFresh (r .pose .strain) (floatsAt 6 b at.neoStiffnessStrain)) c (putRenewed (r .stiffness) (r .«inv_a») c)
+putBlock r b c = cond (isFresh (r .pose .strain) (floatsAt 6 b at.neoStiffnessStrain)) c (putRenewed (r .stiffness) (r .compliance .«inv_a») c)
 
 unfoldable pub putNeoHookean : NeoHookeanRow → List ℕ → List ℕ
 putNeoHookean r b = putFloats 6 (putBlock r b (putPose (r .pose) b)) at.neoDtGrad (r .stiffness .«dt_grad»)

@@ -10,6 +10,7 @@ use Rattle.scalar.specs.declared.Spring.{Spring}
 use Rattle.scalar.specs.declared.Response.{Response}
 use Rattle.cell.specs.declared.Cell.{Cell}
 use Rattle.cell.specs.declared.Pose.{Pose}
+use Rattle.cell.specs.declared.Compliance.{Compliance}
 use Rattle.cell.specs.declared.Impulses.{Impulses}
 use Rattle.corotational.specs.declared.Springs.{Springs}
 use Rattle.corotational.specs.declared.Volume.{Volume}
@@ -75,6 +76,9 @@ poseOf b =
       inverted = eqb (le16 b at.elasticInverted) 1;
     }
 
+unfoldable pub complianceOf : List ℕ → Compliance
+complianceOf b = record { «inv_a» = floatsAt 36 b at.elasticInvA }
+
 unfoldable pub impulsesOf : List ℕ → Impulses
 impulsesOf b = record { strain = floatsAt 6 b at.elasticStrainImpulse; vol = f32At b at.elasticVolImpulse }
 
@@ -105,7 +109,7 @@ corotationalOf b =
     record {
       cell = cellOf b;
       pose = poseOf b;
-      «inv_a» = floatsAt 36 b at.elasticInvA;
+      compliance = complianceOf b;
       impulses = impulsesOf b;
       springs = springsOf b;
       volume = volumeOf b;
@@ -122,7 +126,7 @@ neoHookeanOf b =
     record {
       cell = cellOf b;
       pose = poseOf b;
-      «inv_a» = floatsAt 36 b at.elasticInvA;
+      compliance = complianceOf b;
       impulses = impulsesOf b;
       material = materialOf b;
       stiffness = stiffnessOf b;

@@ -140,9 +140,9 @@ renewed-size : (s : Stiffness) (invA : List Float) (b : List ℕ) → length (pu
 unfolding putRenewed
 renewed-size s invA b = simp (length-putFloats 36, length-putFloats 6)
 
-block-size : (r : NeoHookeanRow) (c : List ℕ) (t : Bool) → length (cond t c (putRenewed (r .stiffness) (r .«inv_a») c)) ≡ length c
+block-size : (r : NeoHookeanRow) (c : List ℕ) (t : Bool) → length (cond t c (putRenewed (r .stiffness) (r .compliance .«inv_a») c)) ≡ length c
 block-size r c true = refl
-block-size r c false = renewed-size (r .stiffness) (r .«inv_a») c
+block-size r c false = renewed-size (r .stiffness) (r .compliance .«inv_a») c
 
 neo-size : (r : NeoHookeanRow) (b : List ℕ) → length (putNeoHookean r b) ≡ length b
 unfolding putNeoHookean
@@ -234,7 +234,7 @@ pub record Steady (f : List ℕ → Points → List ℕ × Points) : Type 0 wher
   pub row : (b : List ℕ) (ps : Points) → Alike ((f b ps) .0) b
   pub points : (b : List ℕ) (ps : Points) → Same ((f b ps) .1) ps
 
-nothing-steady : Steady nothing
+pub nothing-steady : Steady nothing
 nothing-steady = record { row = λ b ps. alike-refl b; points = λ b ps. same-refl ps }
 
 then-steady : (f g : List ℕ → Points → List ℕ × Points) → Steady f → Steady g → Steady (f then g)
@@ -247,7 +247,7 @@ only-steady : (t : Bool) (f : List ℕ → Points → List ℕ × Points) → St
 only-steady true f F = F
 only-steady false f F = nothing-steady
 
-choose-steady : (c : List ℕ → Bool) (f g : List ℕ → Points → List ℕ × Points) → Steady f → Steady g → Steady (choose c f g)
+pub choose-steady : (c : List ℕ → Bool) (f g : List ℕ → Points → List ℕ × Points) → Steady f → Steady g → Steady (choose c f g)
 choose-steady c f g F G = record { row = λ b. (one (c b)) .row b; points = λ b. (one (c b)) .points b }
   where
     one : (t : Bool) → Steady (pick t f g)

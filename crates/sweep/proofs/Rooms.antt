@@ -61,7 +61,6 @@ pub record Room (n off len : ℕ) (s : List ℕ) : Type 0 where
   pub said : off + recordLength s off ≤ length s
   pub long : 182 ≤ len
   pub wide : rowLength (le16 (recordAt s off) 4) ≤ length (recordAt s off)
-  pub wide-part : rowLength (le16 (part off len s) 4) ≤ length (part off len s)
 
 pub room : {n off len : ℕ} {s : List ℕ} → Standing n off len s → Room n off len s
 room {n} {off} {len} {s} y =
@@ -73,13 +72,7 @@ room {n} {off} {len} {s} y =
       said = omega (arith, size-here w, length-here w);
       long = omega (arith, long-here w, w .long);
       wide = subst (λ (b : List ℕ). rowLength (le16 b 4) ≤ length b) (sym (record-here w)) (w .row .wide);
-      wide-part = subst (λ (b : List ℕ). rowLength (le16 b 4) ≤ length b) (sym (row-here w)) (w .row .wide);
     }
-
--- the same of the part as it is lent
-pub lent-room : {n off len : ℕ} {s : List ℕ} → Standing n off len s
-    → rowLength (le16 (take (off + len - off) (drop off s)) 4) ≤ length (take (off + len - off) (drop off s))
-lent-room y = simp add-sub-cancel-left (room y .wide-part)
 
 -- ---- sizes stay
 

@@ -1,14 +1,10 @@
 -- What the code of one row's step leaves is the step of the rules. Assumes nothing.
-use Prim.Native.Nat.{ℕ, _+_, _*_, _≤_}
+use Prim.Native.Nat.{ℕ}
 use mathlib.Core.Path.{_≡_, refl, sym, ap, _∙_, subst}
-use mathlib.Core.Bool.{Bool, true, false, cond}
+use mathlib.Core.Bool.{Bool, true, false, cond, not, _&&_}
 use mathlib.Core.List.{List, _++_}
-use lib.Dec.{eqb}
 use lib.Ieee.{Float}
-use borrow.Author.Tests.{eq-eqb, ne-eqb}
-use native.Mathlib.Omega.{arith}
-use lib.ListN.{length}
-use Rattle.bytes.specs.Bytes.{le16, part}
+use Rattle.bytes.specs.Bytes.{part}
 use Rattle.records.specs.Records.{recordAt, flatten}
 use Rattle.relisting.specs.Steps.{fetch, alters, _then_, pick, choose, nothing}
 use Rattle.vector.specs.declared.Vec3.{Vec3}
@@ -18,14 +14,17 @@ use Rattle.places.specs.declared.Holds.{Holds}
 use Rattle.rows.specs.Row.{places, holdsOf, lossesOf, four}
 use Rattle.stored.specs.Read.{rowOf}
 use Rattle.stored.specs.Phases.{namesAt, isStrainedAt, updateRow, warmRow, warmLoss, solveRow, solveLoss}
-use Rattle.stored.specs.Points.{Points, position, velocity, lose, only, update, warm, solve, mainStep, resweepStep}
+use Rattle.stored.specs.Points.{Points, position, velocity, lose, only, update, warm, solve}
 use Rattle.stored.specs.Sizes.{Alike, Same, Steady, update-steady, warm-steady, solve-steady, lose-alike}
-use Rattle.stored.specs.PhaseLaws.{namesOn, names-are, strained-is, positionsOn, velocitiesOn, update-is, update-leaves, warm-is, warm-loses, solve-is, solve-loses}
+use Rattle.stored.specs.PhaseLaws.{namesOn, names-are, update-names, warm-names, strained-is, positionsOn, velocitiesOn, update-is, update-leaves, warm-is, warm-loses, solve-is, solve-loses}
 use Rattle.points.specs.InFrame.{onPart, holdsIn, taken}
 use Rattle.points.proofs.Bridge.{holds-bridge, taken-bridge}
-use Rattle.sweep.specs.Laid.{At, Standing, Stepped, stepOf}
+use Rattle.sweep.specs.Laid.{At, Standing, Stepped, phases, stepOf}
 use Rattle.sweep.specs.declared.Turn.{Turn}
-use Rattle.sweep.proofs.Rooms.{record-here, row-here, anew, still, le16-here, long-here}
+use Rattle.sweep.proofs.Rooms.{record-here, row-here, anew, still}
+
+not-both : false ≡ true → ⊥
+not-both e = subst (λ (t : Bool). cond t ⊥ Unit) e tt
 
 module _ {n off len : ℕ} {H : List ℕ} {ps : Points} {D b X s : List ℕ} (w : At n off len H ps D b X s) where
   -- what the places that the row names hold
@@ -100,26 +99,41 @@ module _ (n off len : ℕ) where
   pub after : (f g : List ℕ → Points → List ℕ × Points) (s s₁ s′ : List ℕ) → Stepped f n off len s s₁ → Stepped g n off len s₁ s′ → Stepped (f then g) n off len s s′
   after f g s s₁ s′ y z H ps D b X w = z H ((f b ps) .1) D ((f b ps) .0) X (y H ps D b X w)
 
-  pub chosen : (s s′ : List ℕ) → le16 s (off + 8) ≡ 1 → Stepped (solve n) n off len s s′ → Stepped (resweepStep n) n off len s s′
-  unfolding isStrainedAt
-  chosen s s′ e z H ps D b X w =
-      let t : rowOf b .strained ≡ true = flag w e in
-      subst (λ (u : Bool). At n off len H ((pick u (solve n) nothing b ps) .1) D ((pick u (solve n) nothing b ps) .0) X s′) (sym t) (z H ps D b X w)
+  -- a resweep passes over a row that is not strained
+  pub passed : (t : Turn) (x : Bool) (s : List ℕ) → x ≡ isStrainedAt (recordAt s off) → (t .resweep && not x) ≡ true → Stepped (stepOf n t) n off len s s
+  passed t x s e h H ps D b X w = go (t .resweep) x h (e ∙ ap isStrainedAt (record-here w) ∙ sym (strained-is b))
     where
-      flag : {H : List ℕ} {ps : Points} {D b X : List ℕ} → At n off len H ps D b X s → le16 s (off + 8) ≡ 1 → rowOf b .strained ≡ true
-      flag {b = b} w e = strained-is b ∙ eq-eqb (le16 b 8) 1 (sym (le16-here w 8 (omega (arith, long-here w))) ∙ e)
+      go : (u x : Bool) → (u && not x) ≡ true → x ≡ rowOf b .strained
+          → At n off len H ((cond u (choose (λ c. rowOf c .strained) (phases n t) nothing) (phases n t) b ps) .1) D
+          ((cond u (choose (λ c. rowOf c .strained) (phases n t) nothing) (phases n t) b ps) .0) X s
+      go true false h e = subst (λ (y : Bool). At n off len H ((pick y (phases n t) nothing b ps) .1) D ((pick y (phases n t) nothing b ps) .0) X s) e w
+      go true true h e = absurd (not-both h)
+      go false x h e = absurd (not-both h)
 
-  pub passed : (s : List ℕ) → (le16 s (off + 8) ≡ 1 → ⊥) → Stepped (resweepStep n) n off len s s
-  unfolding isStrainedAt
-  passed s e H ps D b X w =
-      let t : rowOf b .strained ≡ false = flag w in
-      subst (λ (u : Bool). At n off len H ((pick u (solve n) nothing b ps) .1) D ((pick u (solve n) nothing b ps) .0) X s) (sym t) w
+  -- any other row goes through the phases
+  pub gone : (t : Turn) (x : Bool) (s s′ : List ℕ) → x ≡ isStrainedAt (recordAt s off) → (t .resweep && not x) ≡ false → Stepped (phases n t) n off len s s′
+      → Stepped (stepOf n t) n off len s s′
+  gone t x s s′ e h z H ps D b X w = go (t .resweep) x h (e ∙ ap isStrainedAt (record-here w) ∙ sym (strained-is b)) (z H ps D b X w)
     where
-      flag : {H : List ℕ} {ps : Points} {D b X : List ℕ} → At n off len H ps D b X s → rowOf b .strained ≡ false
-      flag {b = b} w = strained-is b ∙ ne-eqb (le16 b 8) 1 (λ z. e (le16-here w 8 (omega (arith, long-here w)) ∙ z))
+      go : (u x : Bool) → (u && not x) ≡ false → x ≡ rowOf b .strained
+          → At n off len H ((phases n t b ps) .1) D ((phases n t b ps) .0) X s′
+          → At n off len H ((cond u (choose (λ c. rowOf c .strained) (phases n t) nothing) (phases n t) b ps) .1) D
+          ((cond u (choose (λ c. rowOf c .strained) (phases n t) nothing) (phases n t) b ps) .0) X s′
+      go true true h e w = subst (λ (y : Bool). At n off len H ((pick y (phases n t) nothing b ps) .1) D ((pick y (phases n t) nothing b ps) .0) X s′) e w
+      go true false h e w = absurd (not-both (sym h))
+      go false x h e w = w
 
-  pub turned : (t : Turn) (s s′ : List ℕ) → t .resweep ≡ true → Stepped (resweepStep n) n off len s s′ → Stepped (stepOf n t) n off len s s′
-  turned t s s′ e = subst (λ (u : Bool). Stepped (resweepStep n) n off len s s′ → Stepped (cond u (resweepStep n) (mainStep n (t .update) (t .warm) (t .coeff) (t .least))) n off len s s′) (sym e) (λ z. z)
+-- ---- an update and a warm start leave the names
 
-  pub main-turned : (t : Turn) (s s′ : List ℕ) → t .resweep ≡ false → Stepped (mainStep n (t .update) (t .warm) (t .coeff) (t .least)) n off len s s′ → Stepped (stepOf n t) n off len s s′
-  main-turned t s s′ e = subst (λ (u : Bool). Stepped (mainStep n (t .update) (t .warm) (t .coeff) (t .least)) n off len s s′ → Stepped (cond u (resweepStep n) (mainStep n (t .update) (t .warm) (t .coeff) (t .least))) n off len s s′) (sym e) (λ z. z)
+abbrev pub NamesStay : (List ℕ → Points → List ℕ × Points) → Type 0
+NamesStay f = (b : List ℕ) (ps : Points) → namesAt ((f b ps) .0) ≡ namesAt b
+
+only-names : (t : Bool) (f : List ℕ → Points → List ℕ × Points) → NamesStay f → NamesStay (only t f)
+only-names true f h = h
+only-names false f h = λ b ps. refl
+
+pub update-stay : (n : ℕ) (t : Bool) (least : Float) → NamesStay (only t (update n least))
+update-stay n t least = only-names t (update n least) (λ b ps. ap namesAt (update-is n b ps least) ∙ update-names least (positionsOn b ps) b)
+
+pub warm-stay : (n : ℕ) (t : Bool) (coeff : Float) → NamesStay (only t (warm n coeff))
+warm-stay n t coeff = only-names t (warm n coeff) (λ b ps. ap namesAt (warm-is n b ps coeff) ∙ warm-names coeff b)

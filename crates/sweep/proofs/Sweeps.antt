@@ -7,12 +7,13 @@ use native.Mathlib.Omega.{arith}
 use lib.ListN.{length, length-append}
 use Rattle.bytes.specs.Bytes.{le16, le32}
 use Rattle.records.specs.Records.{recordLength, flatten}
-use Rattle.relisting.specs.Steps.{sweep}
-use Rattle.stored.specs.Points.{Points, mainStep, resweepStep}
+use Rattle.relisting.specs.Steps.{choose, nothing, sweep}
+use Rattle.stored.specs.Read.{rowOf}
+use Rattle.stored.specs.Points.{Points}
 use Rattle.stored.specs.Run.{lay}
-use Rattle.stored.specs.Sizes.{Steady, main-steady, resweep-steady, sweep-rows, sweep-points, same-length}
+use Rattle.stored.specs.Sizes.{Steady, main-steady, choose-steady, nothing-steady, sweep-rows, sweep-points, same-length}
 use Rattle.points.specs.InFrame.{Sized}
-use Rattle.sweep.specs.Laid.{RowSized, RowsSized, At, Standing, Stepped, stepOf, Laid, Ready, Swept}
+use Rattle.sweep.specs.Laid.{RowSized, RowsSized, At, Standing, Stepped, phases, stepOf, Laid, Ready, Swept}
 use Rattle.sweep.specs.declared.Turn.{Turn}
 use Rattle.sweep.proofs.Rooms.{long-here, length-here, size-here, scalar-here}
 
@@ -194,9 +195,12 @@ module _ (t : Turn) (n r : ℕ) (s₀ : List ℕ) where
 pub step-steady : (n : ℕ) (t : Turn) → Steady (stepOf n t)
 step-steady n t = go (t .resweep)
   where
-    go : (u : Bool) → Steady (cond u (resweepStep n) (mainStep n (t .update) (t .warm) (t .coeff) (t .least)))
-    go true = resweep-steady n
-    go false = main-steady n (t .update) (t .warm) (t .coeff) (t .least)
+    phases-steady : Steady (phases n t)
+    phases-steady = main-steady n (t .update) (t .warm) (t .coeff) (t .least)
+
+    go : (u : Bool) → Steady (cond u (choose (λ b. rowOf b .strained) (phases n t) nothing) (phases n t))
+    go true = choose-steady (λ b. rowOf b .strained) (phases n t) nothing phases-steady nothing-steady
+    go false = phases-steady
 
 pub rows-many : (f : List ℕ → Points → List ℕ × Points) → Steady f → (bs : List (List ℕ)) (ps : Points) → length ((sweep f bs ps) .0) ≡ length bs
 rows-many f z bs ps = same-length _ _ (sweep-rows f z bs ps)

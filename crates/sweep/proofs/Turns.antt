@@ -8,20 +8,24 @@ use native.Mathlib.Nat.{sub-zero}
 use lib.ListN.{length, replicate, length-append}
 use Rattle.records.proofs.Rest.{sub-turn}
 use Rattle.records.specs.Records.{flatten}
-use Rattle.relisting.specs.Steps.{sweep, sweeps, run}
+use Rattle.relisting.specs.Steps.{choose, nothing, sweep, sweeps, run}
 use Rattle.stored.specs.Run.{lay}
 use Rattle.points.proofs.Bridge.{length-points}
+use Rattle.stored.specs.Read.{rowOf}
 use Rattle.stored.specs.Points.{Points, resweepStep, mainStep}
 use Rattle.stored.specs.Sizes.{Steady, resweep-steady}
-use Rattle.sweep.specs.Laid.{stepOf, Laid, Ready, Swept, Reswept, Ran}
+use Rattle.sweep.specs.Laid.{phases, stepOf, Resweep, Laid, Ready, Swept, Reswept, Ran}
 use Rattle.sweep.specs.declared.Turn.{Turn}
 use Rattle.sweep.proofs.Sweeps.{rows-many, points-many, step-steady, swept-ready}
 
 -- a sweep of a turn that is a resweep
-pub reswept-one : (t : Turn) (n r : ℕ) (s s′ : List ℕ) → t .resweep ≡ true → Swept t n r s s′
+pub reswept-one : (t : Turn) (n r : ℕ) (s s′ : List ℕ) → Resweep t → Swept t n r s s′
     → (h : List ℕ) (x : List (List ℕ) × Points) → Laid s h x → length (x .1) ≡ n → length (x .0) ≡ r → Laid s′ h (sweep (resweepStep n) (x .0) (x .1))
 reswept-one t n r s s′ e w h x l p q =
-    subst (λ (u : Bool). Laid s′ h (sweep (cond u (resweepStep n) (mainStep n (t .update) (t .warm) (t .coeff) (t .least))) (x .0) (x .1))) e (w h x l p q)
+    subst (λ (f : List ℕ → Points → List ℕ × Points). Laid s′ h (sweep f (x .0) (x .1))) as-rules (w h x l p q)
+  where
+    as-rules : stepOf n t ≡ resweepStep n
+    as-rules = λ i. cond (e .on i) (choose (λ b. rowOf b .strained) (mainStep n (e .no-update i) (e .no-warm i) (t .coeff) (t .least)) nothing) (phases n t)
 
 pub record Resweeping (k n r : ℕ) (h : List ℕ) (x : List (List ℕ) × Points) (i : ℕ) (s : List ℕ) : Type 0 where
   pub now-x : List (List ℕ) × Points
@@ -49,7 +53,7 @@ module _ (k n r : ℕ) (s₀ : List ℕ) where
         let b = a (y .h) (y .x) (y .laid) (y .size) (y .count) in
         record { h = y .h; x = b .now-x; laid = b .laid; size = b .size; count = b .count; few = y .few; fewR = y .fewR }
 
-    pub again-again : (t : Turn) (s′ : List ℕ) → i < k → t .resweep ≡ true → Swept t n r s s′ → Again k n r s₀ (i + 1) s′
+    pub again-again : (t : Turn) (s′ : List ℕ) → i < k → Resweep t → Swept t n r s s′ → Again k n r s₀ (i + 1) s′
     again-again t s′ less e w h x l p q =
         let b = a h x l p q in
         record {

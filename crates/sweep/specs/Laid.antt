@@ -1,13 +1,14 @@
 -- What the inner functions of a run cite: bytes that are laid out from a head, points and rows, and what a step or a sweep makes of them. A reader of the rules does not need it: the exported contract is stated with stored/specs/Run.antt. Definitions only. Assumes nothing.
 use Prim.Native.Nat.{ℕ, _+_, _*_, _≤_, _<_}
 use mathlib.Core.Path.{_≡_}
-use mathlib.Core.Bool.{Bool, cond}
+use mathlib.Core.Bool.{Bool, true, false, cond}
 use mathlib.Core.List.{List, [], _∷_, _++_}
 use lib.ListN.{length, replicate}
 use lib.Ieee.{Float}
 use Rattle.bytes.specs.Bytes.{le16}
 use Rattle.records.specs.Records.{recordLength, flatten}
-use Rattle.relisting.specs.Steps.{sweep, sweeps, run}
+use Rattle.relisting.specs.Steps.{choose, nothing, sweep, sweeps, run}
+use Rattle.stored.specs.Read.{rowOf}
 use Rattle.stored.specs.Points.{Points, mainStep, resweepStep}
 use Rattle.stored.specs.Run.{lay}
 use Rattle.floats.proofs.Same.{Finite3}
@@ -54,9 +55,19 @@ Stepped f n off len s s′ = (H : List ℕ) (ps : Points) (D b X : List ℕ) →
 
 -- ---- a sweep, and all of them
 
+-- the phases that are on, and the solve
+abbrev pub phases : ℕ → Turn → List ℕ → Points → List ℕ × Points
+phases n t = mainStep n (t .update) (t .warm) (t .coeff) (t .least)
+
 -- what a sweep does with a row
 abbrev pub stepOf : ℕ → Turn → List ℕ → Points → List ℕ × Points
-stepOf n t = cond (t .resweep) (resweepStep n) (mainStep n (t .update) (t .warm) (t .coeff) (t .least))
+stepOf n t = cond (t .resweep) (choose (λ b. rowOf b .strained) (phases n t) nothing) (phases n t)
+
+-- the turn of a resweep
+pub record Resweep (t : Turn) : Type 0 where
+  pub on : t .resweep ≡ true
+  pub no-update : t .update ≡ false
+  pub no-warm : t .warm ≡ false
 
 -- the frame s is a head h, and the rows and points x
 pub record Laid (s h : List ℕ) (x : List (List ℕ) × Points) : Type 0 where

@@ -3,13 +3,16 @@ ghost use mathlib.Core.Path.{_≡_};
 ghost use mathlib.Core.Bool.{Bool, true, false};
 ghost use Prim.Native.Nat.{ℕ, _+_, _≤_};
 ghost use lib.ListN.{length};
-ghost use Rattle.bytes.specs.Bytes.{le16, le32};
+ghost use Rattle.bytes.specs.Bytes.{le16};
+ghost use Rattle.records.specs.Records.{recordLength, recordAt};
+ghost use Rattle.stored.specs.Phases.{namesAt};
 ghost use Rattle.stored.specs.Points as spec;
 ghost use Rattle.points.specs.Apart.{moved, Fit};
-ghost use Rattle.sweep.specs.Laid.{Calm, Standing, Stepped, stepOf, Ready, Swept, Reswept, Ran};
+ghost use Rattle.sweep.specs.Laid.{Calm, Standing, Stepped, stepOf, Resweep, Ready, Swept, Reswept, Ran};
+use places::Ids;
 use records::layout;
 
-// What a sweep does with each row. A resweep solves those that are strained; the main sweep updates and warms where the mode says so, and solves.
+// What a sweep does with each row: an update and a warm start where they are on, and the solve. A resweep passes over the rows that are not strained, and has neither on.
 pub struct Turn {
     pub resweep: bool,
     pub update: bool,
@@ -19,106 +22,100 @@ pub struct Turn {
     pub least: f32,
 }
 
-// ---- one row: fetch, compute, alter. It stands at off and has len bytes, among n points
+// ---- one row: fetch, compute, alter. It stands at off and has len bytes, among n points, and i are the ids that it names
 
-fn update_at(least: f32, n: usize, off: usize, len: usize, s: &mut [u8], v: &[f32; 12288])
-    requires { ⌜ Standing n off len (moved n (now v) (now s)) × Fit (now v) ⌝ }
+fn update_at(least: f32, i: Ids, n: usize, off: usize, len: usize, s: &mut [u8], v: &[f32; 12288])
+    requires { ⌜ (Standing n off len (moved n (now v) (now s)) × Fit (now v)) × (i ≡ namesAt (recordAt (now s) off)) ⌝ }
     ensures { λ _. ⌜ Stepped (spec.update n least) n off len (moved n (now (v .entry)) (now (s .entry))) (moved n (now (v .entry)) (now (s .exit))) ⌝ }
 {
-    let i = row::names_at(records::record_at(s, off));
     let held = points::positions(n, s, i);
     let e = off + len;
-    row::update_row(&mut s[off..e], held, least);
+    row::update_row(s, off, e, held, least);
 }
 
-fn warm_at(coeff: f32, n: usize, off: usize, len: usize, s: &mut [u8], v: &mut [f32; 12288])
-    requires { ⌜ Standing n off len (moved n (now v) (now s)) × Fit (now v) ⌝ }
+fn warm_at(coeff: f32, i: Ids, n: usize, off: usize, len: usize, s: &mut [u8], v: &mut [f32; 12288])
+    requires { ⌜ (Standing n off len (moved n (now v) (now s)) × Fit (now v)) × (i ≡ namesAt (recordAt (now s) off)) ⌝ }
     ensures { λ _. ⌜ Stepped (spec.warm n coeff) n off len (moved n (now (v .entry)) (now (s .entry))) (moved n (now (v .exit)) (now (s .exit))) × Fit (now (v .exit)) ⌝ }
 {
-    let i = row::names_at(records::record_at(s, off));
     let e = off + len;
-    let loss = row::warm_row(&mut s[off..e], coeff);
+    let loss = row::warm_row(s, off, e, coeff);
     points::take(n, v, i, loss);
 }
 
-fn solve_at(n: usize, off: usize, len: usize, s: &mut [u8], v: &mut [f32; 12288])
-    requires { ⌜ Standing n off len (moved n (now v) (now s)) × Fit (now v) ⌝ }
+fn solve_at(i: Ids, n: usize, off: usize, len: usize, s: &mut [u8], v: &mut [f32; 12288])
+    requires { ⌜ (Standing n off len (moved n (now v) (now s)) × Fit (now v)) × (i ≡ namesAt (recordAt (now s) off)) ⌝ }
     ensures { λ _. ⌜ Stepped (spec.solve n) n off len (moved n (now (v .entry)) (now (s .entry))) (moved n (now (v .exit)) (now (s .exit))) × Fit (now (v .exit)) ⌝ }
 {
-    let i = row::names_at(records::record_at(s, off));
     let vel = points::velocities(n, v, i);
     let e = off + len;
-    let loss = row::solve_row(&mut s[off..e], vel);
+    let loss = row::solve_row(s, off, e, vel);
     points::take(n, v, i, loss);
 }
 
-fn update_if(on: bool, least: f32, n: usize, off: usize, len: usize, s: &mut [u8], v: &[f32; 12288])
-    requires { ⌜ Standing n off len (moved n (now v) (now s)) × Fit (now v) ⌝ }
+fn update_if(
+    on: bool,
+    least: f32,
+    i: Ids,
+    n: usize,
+    off: usize,
+    len: usize,
+    s: &mut [u8],
+    v: &[f32; 12288],
+)
+    requires { ⌜ (Standing n off len (moved n (now v) (now s)) × Fit (now v)) × (i ≡ namesAt (recordAt (now s) off)) ⌝ }
     ensures { λ _. ⌜ Stepped (spec.only on (spec.update n least)) n off len (moved n (now (v .entry)) (now (s .entry))) (moved n (now (v .entry)) (now (s .exit))) ⌝ }
 {
     if on {
-        update_at(least, n, off, len, s, v);
+        update_at(least, i, n, off, len, s, v);
     }
 }
 
 fn warm_if(
     on: bool,
     coeff: f32,
+    i: Ids,
     n: usize,
     off: usize,
     len: usize,
     s: &mut [u8],
     v: &mut [f32; 12288],
 )
-    requires { ⌜ Standing n off len (moved n (now v) (now s)) × Fit (now v) ⌝ }
+    requires { ⌜ (Standing n off len (moved n (now v) (now s)) × Fit (now v)) × (i ≡ namesAt (recordAt (now s) off)) ⌝ }
     ensures { λ _. ⌜ Stepped (spec.only on (spec.warm n coeff)) n off len (moved n (now (v .entry)) (now (s .entry))) (moved n (now (v .exit)) (now (s .exit))) × Fit (now (v .exit)) ⌝ }
 {
     if on {
-        warm_at(coeff, n, off, len, s, v);
+        warm_at(coeff, i, n, off, len, s, v);
     }
 }
 
-// As `solve_color_constraint` does it.
-fn main_step(t: Turn, n: usize, off: usize, len: usize, s: &mut [u8], v: &mut [f32; 12288])
-    requires { ⌜ Standing n off len (moved n (now v) (now s)) × Fit (now v) ⌝ }
-    ensures { λ _. ⌜ Stepped (spec.mainStep n (t .update) (t .warm) (t .coeff) (t .least)) n off len (moved n (now (v .entry)) (now (s .entry))) (moved n (now (v .exit)) (now (s .exit))) × Fit (now (v .exit)) ⌝ }
-{
-    update_if(t.update, t.least, n, off, len, s, v);
-    warm_if(t.warm, t.coeff, n, off, len, s, v);
-    solve_at(n, off, len, s, v);
-}
-
-fn resweep_step(n: usize, off: usize, len: usize, s: &mut [u8], v: &mut [f32; 12288])
-    requires { ⌜ Standing n off len (moved n (now v) (now s)) × Fit (now v) ⌝ }
-    ensures { λ _. ⌜ Stepped (spec.resweepStep n) n off len (moved n (now (v .entry)) (now (s .entry))) (moved n (now (v .exit)) (now (s .exit))) × Fit (now (v .exit)) ⌝ }
-{
-    if bytes::get_u16(s, off + layout::ROW_STRAINED) == 1 {
-        solve_at(n, off, len, s, v);
-    }
-}
-
+// The row's names are read once, and what the phases put leaves them. The main sweep does as `solve_color_constraint` does it.
 fn step(t: Turn, n: usize, off: usize, len: usize, s: &mut [u8], v: &mut [f32; 12288])
     requires { ⌜ Standing n off len (moved n (now v) (now s)) × Fit (now v) ⌝ }
     ensures { λ _. ⌜ Stepped (stepOf n t) n off len (moved n (now (v .entry)) (now (s .entry))) (moved n (now (v .exit)) (now (s .exit))) × Fit (now (v .exit)) ⌝ }
 {
-    if t.resweep {
-        resweep_step(n, off, len, s, v);
-    } else {
-        main_step(t, n, off, len, s, v);
+    let b = records::record_at(s, off);
+    if t.resweep & !row::is_strained(b) {
+        return;
     }
+    let i = row::names_at(b);
+    update_if(t.update, t.least, i, n, off, len, s, v);
+    warm_if(t.warm, t.coeff, i, n, off, len, s, v);
+    solve_at(i, n, off, len, s, v);
 }
 
 // ---- the sweeps: n points, r rows
 
-// The length of the row at off. A scalar row's is known by its kind, through a branch: so the place of the next row does not wait until the length is read.
-fn length_at(s: &[u8], off: usize) -> usize
-    requires { ⌜ (off + 6 ≤ length (now s)) × (le16 (now s) (off + 4) ≡ 3 → 4 + le32 (now s) off ≡ 182) ⌝ }
-    ensures { λ r. ⌜ r ≡ 4 + le32 (now (s .entry)) off ⌝ }
+// The bytes of the row at off, as a part of the frame. A scalar row's length is known by its kind, through a branch: so the place of the next row does not
+// wait until the length is read.
+fn row_at(s: &[u8], off: usize) -> &[u8]
+    requires { ⌜ ((off + 6 ≤ length (now s)) × (off + recordLength (now s) off ≤ length (now s))) × (le16 (now s) (off + 4) ≡ 3 → recordLength (now s) off ≡ 182) ⌝ }
+    ensures { λ r. ⌜ (now r ≡ recordAt (now (s .entry)) off) × (length (now r) ≡ recordLength (now (s .entry)) off) ⌝ }
 {
     if bytes::get_u16(s, off + layout::KIND_AT) == 3 {
-        return layout::SCALAR_END;
+        let e = off + layout::SCALAR_END;
+        return &s[off..e];
     }
-    4 + (bytes::get_u32(s, off) as usize)
+    records::record_at(s, off)
 }
 
 fn sweep(t: Turn, n: usize, r: usize, s: &mut [u8], v: &mut [f32; 12288])
@@ -128,7 +125,7 @@ fn sweep(t: Turn, n: usize, r: usize, s: &mut [u8], v: &mut [f32; 12288])
     let mut off = layout::HEAD_END + layout::POINT_END * n;
     let mut i: usize = 0;
     while i < r {
-        let len = length_at(s, off);
+        let len = row_at(s, off).len();
         step(t, n, off, len, s, v);
         off = off + len;
         i = i + 1;
@@ -136,7 +133,7 @@ fn sweep(t: Turn, n: usize, r: usize, s: &mut [u8], v: &mut [f32; 12288])
 }
 
 fn resweeps(t: Turn, k: u16, n: usize, r: usize, s: &mut [u8], v: &mut [f32; 12288])
-    requires { ⌜ (Ready n r (moved n (now v) (now s)) × Fit (now v)) × (t .resweep ≡ true) ⌝ }
+    requires { ⌜ (Ready n r (moved n (now v) (now s)) × Fit (now v)) × Resweep t ⌝ }
     ensures { λ _. ⌜ Reswept k n r (moved n (now (v .entry)) (now (s .entry))) (moved n (now (v .exit)) (now (s .exit))) × Fit (now (v .exit)) ⌝ }
 {
     let mut i: u16 = 0;
@@ -156,6 +153,8 @@ pub fn sweep_all(t: Turn, k: u16, n: usize, r: usize, s: &mut [u8])
     sweep(t, n, r, s, &mut v);
     let mut u = t;
     u.resweep = true;
+    u.update = false;
+    u.warm = false;
     resweeps(u, k, n, r, s, &mut v);
     points::scatter(n, s, &v);
 }

@@ -137,9 +137,9 @@ module _ (k : ℕ) where
 
       block-stays : (r : NeoHookeanRow) (d : List ℕ) (fresh : Bool)
           → Outside k (when (not fresh) (floats at.neoStiffnessStrain 6 and floats at.neoM 36 and floats at.elasticInvA 36))
-          → getD (cond fresh d (putRenewed (r .stiffness) (r .«inv_a») d)) k 0 ≡ getD d k 0
+          → getD (cond fresh d (putRenewed (r .stiffness) (r .compliance .«inv_a») d)) k 0 ≡ getD d k 0
       block-stays r d true o = refl
-      block-stays r d false o = renewed-stays (r .stiffness) (r .«inv_a») d o
+      block-stays r d false o = renewed-stays (r .stiffness) (r .compliance .«inv_a») d o
 
       neo-stays : (t : Bool) → Outside k (poseUpdate held and blockUpdate (isStillFresh held b))
           → getD (putFlag (putNeoHookean (n.update (neoHookeanOf b) held) b) at.rowStrained t) k 0 ≡ getD b k 0

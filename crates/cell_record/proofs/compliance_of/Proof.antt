@@ -1,7 +1,8 @@
 -- `cell_record::compliance_of` meets its contract. Six columns, one after the other, are the 36 floats. Assumes nothing.
 use borrow.Author.Needs.{needs}
-use Rattle.cell.specs.Columns.{fromColumns}
-use Rattle.cell_record.specs.Joined.{joined-of}
+use mathlib.Core.Path.{refl}
+use Rattle.stored.specs.Read.{complianceOf}
+use Rattle.cell_record.proofs.Joined.{joined-of}
 use Rattle.cell_record.proofs.compliance_of.Statement.{statement}
 use Rattle.cell_record.proofs.compliance_of.Tie as tie
 
@@ -38,42 +39,23 @@ add-floats6-at-5 c = search needs
 floats6-at-requires-6 : tie.Need-floats6-at-requires-6
 floats6-at-requires-6 c κs = search needs
 
-set-column-requires : tie.Need-set-column-requires
-set-column-requires c κs = search needs
-
-set-column-requires-2 : tie.Need-set-column-requires-2
-set-column-requires-2 c κs = search needs
-
-set-column-requires-3 : tie.Need-set-column-requires-3
-set-column-requires-3 c κs = search needs
-
-set-column-requires-4 : tie.Need-set-column-requires-4
-set-column-requires-4 c κs = search needs
-
-set-column-requires-5 : tie.Need-set-column-requires-5
-set-column-requires-5 c κs = search needs
-
-set-column-requires-6 : tie.Need-set-column-requires-6
-set-column-requires-6 c κs = search needs
+from-columns-requires : tie.Need-from-columns-requires
+from-columns-requires c κs = search needs
 
 returns : tie.Need-returns
-unfolding fromColumns
+unfolding complianceOf
 returns c =
     rw (
-      c .set-column6 .ensures,
-      c .before .before .before .set-column5 .ensures,
-      c .before .before .before .before .before .before .set-column4 .ensures,
-      c .before .before .before .before .before .before .before .before .before .set-column3 .ensures,
-      c .before .before .before .before .before .before .before .before .before .before .before .before .set-column2 .ensures,
-      c .before .before .before .before .before .before .before .before .before .before .before .before .before .before .before .set-column .ensures,
+      c .from-columns .ensures,
+      joined-of (c .before .before .before .before .before .before .before .before .before .before .before .before .before .before .args .b .now) 230
+        (c .before .before .before .before .before .before .before .before .before .before .before .before .floats6-at .ensures)
+        (c .before .before .before .before .before .before .before .before .before .before .before .floats6-at2 .ensures)
+        (c .before .before .before .before .before .before .before .before .before .before .floats6-at3 .ensures)
+        (c .before .before .before .before .before .before .before .before .before .floats6-at4 .ensures)
+        (c .before .before .before .before .before .before .before .before .floats6-at5 .ensures)
+        (c .before .before .before .before .before .before .before .floats6-at6 .ensures),
     )
-    (joined-of (c .before .before .before .before .before .before .before .before .before .before .before .before .before .before .before .before .before .before .before .before .before .before .before .before .before .args .b .now) 230
-      (c .before .before .before .before .before .before .before .before .before .before .before .before .before .before .before .before .before .before .before .before .before .before .before .floats6-at .ensures)
-      (c .before .before .before .before .before .before .before .before .before .before .before .before .before .before .before .before .before .before .before .before .before .before .floats6-at2 .ensures)
-      (c .before .before .before .before .before .before .before .before .before .before .before .before .before .before .before .before .before .before .before .before .before .floats6-at3 .ensures)
-      (c .before .before .before .before .before .before .before .before .before .before .before .before .before .before .before .before .before .before .before .before .floats6-at4 .ensures)
-      (c .before .before .before .before .before .before .before .before .before .before .before .before .before .before .before .before .before .before .before .floats6-at5 .ensures)
-      (c .before .before .before .before .before .before .before .before .before .before .before .before .before .before .before .before .before .before .floats6-at6 .ensures))
+    refl
 
 pub compliance-of-spec : {M : Type 1} → statement M
 compliance-of-spec =
@@ -90,10 +72,5 @@ compliance-of-spec =
     floats6-at-requires-5
     add-floats6-at-5
     floats6-at-requires-6
-    set-column-requires
-    set-column-requires-2
-    set-column-requires-3
-    set-column-requires-4
-    set-column-requires-5
-    set-column-requires-6
+    from-columns-requires
     returns)

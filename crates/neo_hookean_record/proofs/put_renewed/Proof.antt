@@ -1,31 +1,30 @@
--- `neo_hookean_record::put_renewed` meets its contract. One put after another. Assumes nothing.
+-- `neo_hookean_record::put_renewed` meets its contract. Its calls are the definition's. Assumes nothing.
 use borrow.Author.Needs.{needs}
-use Rattle.stored.specs.Put.{putRenewed}
+use mathlib.Core.Path.{refl}
 use Rattle.neo_hookean_record.proofs.put_renewed.Statement.{statement}
 use Rattle.neo_hookean_record.proofs.put_renewed.Tie as tie
 
-put-floats6-requires : tie.Need-put-floats6-requires
-put-floats6-requires c κs = search needs
+put-pose-requires : tie.Need-put-pose-requires
+put-pose-requires c κs = search needs
 
-put-floats36-requires : tie.Need-put-floats36-requires
-put-floats36-requires c κs = search needs
+put-block-requires : tie.Need-put-block-requires
+put-block-requires c κs = search needs
 
-put-floats36-requires-2 : tie.Need-put-floats36-requires-2
-put-floats36-requires-2 c κs = search needs
+put-strains-requires : tie.Need-put-strains-requires
+put-strains-requires c κs = search needs
 
 same-length : tie.Need-same-length
 same-length c = search needs
 
 returns : tie.Need-returns
-unfolding putRenewed
-returns c = cc
+returns c =     rw (
+      c .before .before .put-strains .ensures,
+      c .before .before .before .before .before .before .put-block .ensures,
+      c .before .before .before .before .before .before .before .before .before .before .put-pose .ensures,
+    )
+    refl
 
 pub put-renewed-spec : {M : Type 1} → statement M
 put-renewed-spec =
     tie.close
-    (tie.spec
-    put-floats6-requires
-    put-floats36-requires
-    put-floats36-requires-2
-    same-length
-    returns)
+    (tie.spec put-pose-requires put-block-requires put-strains-requires same-length returns)

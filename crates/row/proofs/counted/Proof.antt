@@ -2,8 +2,6 @@
 use borrow.Author.Tests.{lt-ltb, le-ltb}
 use Rattle.row.proofs.counted.Statement.{statement}
 use Rattle.row.proofs.counted.Tie as tie
-use Rattle.row.proofs.counted.Reads as reads
-use Rattle.row.proofs.counted.Lts as lts
 
 returns : tie.Need-returns
 returns c = simp (lt-ltb _ _ (c .if1 .taken))

@@ -3,9 +3,6 @@ use Rattle.stored.specs.Phases.{countedIds}
 use borrow.Author.Needs.{needs}
 use Rattle.row.proofs.counted_ids.Statement.{statement}
 use Rattle.row.proofs.counted_ids.Tie as tie
-use Rattle.row.proofs.counted_ids.Reads as reads
-use Rattle.row.proofs.counted_ids.Lts as lts
-use Rattle.row.proofs.counted.Reads as counted-reads
 
 counted-requires : tie.Need-counted-requires
 counted-requires c κs = search needs

@@ -4,11 +4,6 @@ use Rattle.row.proofs.ByKind.{long-row, names-3, names-4}
 use borrow.Author.Needs.{needs}
 use Rattle.row.proofs.names_at.Statement.{statement}
 use Rattle.row.proofs.names_at.Tie as tie
-use Rattle.row.proofs.names_at.Reads as reads
-use Rattle.row.proofs.names_at.Lts as lts
-use Rattle.bytes.proofs.get_u16.Reads as get-u16-reads
-use Rattle.floats.proofs.ids_at.Reads as ids-at-reads
-use Rattle.row.proofs.counted_ids.Reads as counted-ids-reads
 
 ids-at-requires : tie.Need-ids-at-requires
 ids-at-requires c κs = omega (arith, long-row _ _ (c .before .pre))

@@ -8,9 +8,6 @@ use Rattle.sweep.proofs.Turns.{Again, again-begins, again-ready, again-
 use Rattle.points.specs.Apart.{moved, Fit}
 use Rattle.sweep.proofs.resweeps.Statement.{statement}
 use Rattle.sweep.proofs.resweeps.Tie as tie
-use Rattle.sweep.proofs.resweeps.Reads as reads
-use Rattle.sweep.proofs.resweeps.Lts as lts
-use Rattle.sweep.proofs.sweep.Reads as sweep-reads
 
 abbrev Inv-loop : tie.InvT-loop
 Inv-loop t k n r s₀ v₀ i₀ s v i = Again k n r (moved n v₀ s₀) i (moved n v s) × (Fit v × (length s ≡ length s₀))

@@ -8,12 +8,6 @@ use Rattle.sweep.proofs.Turns.{all-swept, ready-long}
 use borrow.Author.Needs.{needs}
 use Rattle.sweep.proofs.sweep_all.Statement.{statement}
 use Rattle.sweep.proofs.sweep_all.Tie as tie
-use Rattle.sweep.proofs.sweep_all.Reads as reads
-use Rattle.sweep.proofs.sweep_all.Lts as lts
-use Rattle.points.proofs.gather.Reads as gather-reads
-use Rattle.points.proofs.scatter.Reads as scatter-reads
-use Rattle.sweep.proofs.resweeps.Reads as resweeps-reads
-use Rattle.sweep.proofs.sweep.Reads as sweep-reads
 
 gather-requires : tie.Need-gather-requires
 gather-requires c κs = (c .before .before .before .pre .0 .few, (ready-long _ _ _ (c .before .before .before .pre .0), fit-same 0))
@@ -22,7 +16,7 @@ sweep-requires : tie.Need-sweep-requires
 sweep-requires c κs = (subst (Ready _ _) (sym (none-moved _ _ _ (λ j. omega (arith, c .before .before .before .before .before .slice-known .given j)) (c .before .before .before .before .before .before .pre .1 .0) (c .before .before .gather .ensures .0))) (c .before .before .before .before .before .before .pre .0), c .before .before .gather .ensures .1)
 
 resweeps-requires : tie.Need-resweeps-requires
-resweeps-requires c κs = ((swept-ready (c .before .before .before .before .before .before .before .before .before .before .before .args .t) _ _ _ _ (subst (Ready _ _) (sym (none-moved _ _ _ (λ j. omega (arith, c .before .before .before .before .before .before .before .before .before .before .slice-known .given j)) (c .before .before .before .before .before .before .before .before .before .before .before .pre .1 .0) (c .before .before .before .before .before .before .before .gather .ensures .0))) (c .before .before .before .before .before .before .before .before .before .before .before .pre .0)) (c .before .before .before .before .sweep .ensures .0), c .before .before .before .before .sweep .ensures .1), refl)
+resweeps-requires c κs = ((swept-ready (c .before .before .before .before .before .before .before .before .before .before .before .args .t) _ _ _ _ (subst (Ready _ _) (sym (none-moved _ _ _ (λ j. omega (arith, c .before .before .before .before .before .before .before .before .before .before .slice-known .given j)) (c .before .before .before .before .before .before .before .before .before .before .before .pre .1 .0) (c .before .before .before .before .before .before .before .gather .ensures .0))) (c .before .before .before .before .before .before .before .before .before .before .before .pre .0)) (c .before .before .before .before .sweep .ensures .0), c .before .before .before .before .sweep .ensures .1), record { on = refl; no-update = refl; no-warm = refl })
 
 scatter-requires : tie.Need-scatter-requires
 scatter-requires c κs = (c .before .before .before .before .before .before .before .before .before .before .before .before .before .before .before .before .pre .0 .few, omega (arith, ready-long _ _ _ (c .before .before .before .before .before .before .before .before .before .before .before .before .before .before .before .before .pre .0)))

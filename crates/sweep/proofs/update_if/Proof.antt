@@ -1,11 +1,8 @@
 -- `sweep::update_if` meets its contract. Assumes nothing.
-use Rattle.sweep.proofs.Steps.{on, not-on}
 use borrow.Author.Needs.{needs}
+use Rattle.sweep.proofs.Steps.{on, not-on}
 use Rattle.sweep.proofs.update_if.Statement.{statement}
 use Rattle.sweep.proofs.update_if.Tie as tie
-use Rattle.sweep.proofs.update_if.Reads as reads
-use Rattle.sweep.proofs.update_if.Lts as lts
-use Rattle.sweep.proofs.update_at.Reads as update-at-reads
 
 update-at-requires : tie.Need-update-at-requires
 update-at-requires c κs = search needs
@@ -20,4 +17,10 @@ returns-2 : tie.Need-returns-2
 returns-2 c = not-on _ _ _ _ _ _ (c .if1 .left)
 
 pub update-if-spec : {M : Type 1} → statement M
-update-if-spec = tie.close (tie.spec update-at-requires same-length returns returns-2)
+update-if-spec =
+    tie.close
+    (tie.spec
+    update-at-requires
+    same-length
+    returns
+    returns-2)

@@ -1,5 +1,6 @@
 -- `corotational::volumetric::update_volume` meets its contract. Its calls are the definition's. Assumes nothing.
 use borrow.Author.Needs.{needs}
+use mathlib.Core.Path.{refl}
 use Rattle.corotational.specs.Corotational.{updateVolume}
 use Rattle.corotational.proofs.volumetric.update_volume.Statement.{statement}
 use Rattle.corotational.proofs.volumetric.update_volume.Tie as tie
@@ -24,7 +25,16 @@ inv-schur-requires c κs = search needs
 
 returns : tie.Need-returns
 unfolding updateVolume
-returns c = cc
+returns c =
+    rw (
+      c .inv-schur .ensures,
+      c .before .before .before .volume-bias .ensures,
+      c .before .before .before .before .mat-vec .ensures,
+      c .before .before .before .before .before .before .before .coupling .ensures,
+      c .before .before .before .before .before .before .before .before .before .volume-weight .ensures,
+      c .before .before .before .before .before .before .before .before .before .before .volumetric-gradient .ensures,
+    )
+    refl
 
 pub update-volume-spec : {M : Type 1} → statement M
 update-volume-spec =

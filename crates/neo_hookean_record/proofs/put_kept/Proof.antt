@@ -1,0 +1,24 @@
+-- `neo_hookean_record::put_kept` meets its contract. Its calls are the definition's. Assumes nothing.
+use borrow.Author.Needs.{needs}
+use mathlib.Core.Path.{refl}
+use Rattle.neo_hookean_record.proofs.put_kept.Statement.{statement}
+use Rattle.neo_hookean_record.proofs.put_kept.Tie as tie
+
+put-pose-requires : tie.Need-put-pose-requires
+put-pose-requires c κs = search needs
+
+put-strains-requires : tie.Need-put-strains-requires
+put-strains-requires c κs = search needs
+
+same-length : tie.Need-same-length
+same-length c = search needs
+
+returns : tie.Need-returns
+returns c =     rw (
+      c .before .before .put-strains .ensures,
+      c .before .before .before .before .before .before .put-pose .ensures,
+    )
+    refl
+
+pub put-kept-spec : {M : Type 1} → statement M
+put-kept-spec = tie.close (tie.spec put-pose-requires put-strains-requires same-length returns)
