@@ -190,15 +190,15 @@ pub const FUNCTIONS: &[Function] = &[
         branches::SCALAR_GRADIENTS
     ),
     function!(
-        scalar_update(points: Points, row: ScalarRow) -> ScalarRow =
-            rows::update(&points, row),
-        inputs::scalar_points_row,
+        scalar_update(points: Points, row: ScalarRow, min_strain: Real) -> ScalarRow =
+            rows::update_phase(&points, row, min_strain),
+        inputs::scalar_points_row_strain,
         branches::SCALAR_UPDATE
     ),
     function!(
-        scalar_warmstart(points: Points, row: ScalarRow) -> Velocities =
-            rows::warmstart(&points, row),
-        inputs::scalar_points_row,
+        scalar_warmstart(points: Points, row: ScalarRow, coeff: Real) -> (ScalarRow, Velocities) =
+            rows::warm_phase(&points, row, coeff),
+        inputs::scalar_points_row_coeff,
         branches::SCALAR_WARMSTART
     ),
     function!(
@@ -206,12 +206,6 @@ pub const FUNCTIONS: &[Function] = &[
             rows::solve(&points, row),
         inputs::scalar_points_row,
         branches::SCALAR_SOLVE
-    ),
-    function!(
-        scalar_is_strained(row: ScalarRow, min_strain: Real) -> bool =
-            rows::is_strained(row, min_strain),
-        inputs::scalar_row_strain,
-        branches::SCALAR_IS_STRAINED
     ),
     function!(
         scalar_main_step(head: Head, points: Points, row: ScalarRow) -> (ScalarRow, Velocities) =
@@ -270,15 +264,15 @@ pub const FUNCTIONS: &[Function] = &[
         branches::NONE
     ),
     function!(
-        corotational_update(points: Points, row: CorotationalRow) -> CorotationalRow =
-            rows::update(&points, row),
-        inputs::corotational_points_row,
+        corotational_update(points: Points, row: CorotationalRow, min_strain: Real) -> CorotationalRow =
+            rows::update_phase(&points, row, min_strain),
+        inputs::corotational_points_row_strain,
         branches::COROTATIONAL_UPDATE
     ),
     function!(
-        corotational_warmstart(points: Points, row: CorotationalRow) -> Velocities =
-            rows::warmstart(&points, row),
-        inputs::corotational_points_row,
+        corotational_warmstart(points: Points, row: CorotationalRow, coeff: Real) -> (CorotationalRow, Velocities) =
+            rows::warm_phase(&points, row, coeff),
+        inputs::corotational_points_row_coeff,
         branches::COROTATIONAL_WARMSTART
     ),
     function!(
@@ -286,12 +280,6 @@ pub const FUNCTIONS: &[Function] = &[
             rows::solve(&points, row),
         inputs::corotational_points_row,
         branches::COROTATIONAL_SOLVE
-    ),
-    function!(
-        corotational_is_strained(row: CorotationalRow, min_strain: Real) -> bool =
-            rows::is_strained(row, min_strain),
-        inputs::corotational_row_strain,
-        branches::COROTATIONAL_IS_STRAINED
     ),
     function!(
         corotational_main_step(head: Head, points: Points, row: CorotationalRow) -> (CorotationalRow, Velocities) =
@@ -306,15 +294,15 @@ pub const FUNCTIONS: &[Function] = &[
         branches::COROTATIONAL_RESWEEP_STEP
     ),
     function!(
-        neo_hookean_update(points: Points, row: NeoHookeanRow) -> NeoHookeanRow =
-            rows::update(&points, row),
-        inputs::neo_hookean_points_row,
+        neo_hookean_update(points: Points, row: NeoHookeanRow, min_strain: Real) -> NeoHookeanRow =
+            rows::update_phase(&points, row, min_strain),
+        inputs::neo_hookean_points_row_strain,
         branches::NEO_HOOKEAN_UPDATE
     ),
     function!(
-        neo_hookean_warmstart(points: Points, row: NeoHookeanRow) -> Velocities =
-            rows::warmstart(&points, row),
-        inputs::neo_hookean_points_row,
+        neo_hookean_warmstart(points: Points, row: NeoHookeanRow, coeff: Real) -> (NeoHookeanRow, Velocities) =
+            rows::warm_phase(&points, row, coeff),
+        inputs::neo_hookean_points_row_coeff,
         branches::NEO_HOOKEAN_WARMSTART
     ),
     function!(
@@ -322,12 +310,6 @@ pub const FUNCTIONS: &[Function] = &[
             rows::solve(&points, row),
         inputs::neo_hookean_points_row,
         branches::NEO_HOOKEAN_SOLVE
-    ),
-    function!(
-        neo_hookean_is_strained(row: NeoHookeanRow, min_strain: Real) -> bool =
-            rows::is_strained(row, min_strain),
-        inputs::neo_hookean_row_strain,
-        branches::NEO_HOOKEAN_IS_STRAINED
     ),
     function!(
         neo_hookean_main_step(head: Head, points: Points, row: NeoHookeanRow) -> (NeoHookeanRow, Velocities) =

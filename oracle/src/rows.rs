@@ -9,7 +9,7 @@ use crate::dynamics::solver::soft_element_constraint::{
     StrainVector, reach,
 };
 use crate::support::bodies::{SolverBodies, SolverPose, SolverVel};
-use crate::support::real::Real;
+use crate::support::real::{Real, max};
 use crate::support::vector::{Matrix, Rotation, Vector};
 use crate::words_of;
 
@@ -305,6 +305,10 @@ pub(crate) trait Row: Copy {
     fn with(self, listed: &Self::Listed) -> Self;
     fn strained_mut(&mut self) -> &mut bool;
 
+    /// What `solve_color_constraint` does to the row before an update, and before a warm start.
+    fn begin(listed: &mut Self::Listed);
+    fn scale(listed: &mut Self::Listed, coeff: Real);
+
     fn update(listed: &mut Self::Listed, bodies: &SolverBodies);
     fn warmstart(listed: &Self::Listed, bodies: &mut SolverBodies);
     fn solve(listed: &mut Self::Listed, bodies: &mut SolverBodies);
@@ -375,6 +379,14 @@ impl Row for ScalarRow {
 
     fn strained_mut(&mut self) -> &mut bool {
         &mut self.strained
+    }
+
+    fn begin(listed: &mut SoftScalarConstraint) {
+        listed.peak_impulse = max(listed.peak_impulse, listed.impulse);
+    }
+
+    fn scale(listed: &mut SoftScalarConstraint, coeff: Real) {
+        listed.impulse *= coeff;
     }
 
     fn update(listed: &mut SoftScalarConstraint, bodies: &SolverBodies) {
@@ -468,6 +480,13 @@ impl<M: Model> Row for ElasticRow<M> {
         &mut self.strained
     }
 
+    fn begin(_listed: &mut SoftElasticConstraint) {}
+
+    fn scale(listed: &mut SoftElasticConstraint, coeff: Real) {
+        listed.strain_impulse *= coeff;
+        listed.vol_impulse *= coeff;
+    }
+
     fn update(listed: &mut SoftElasticConstraint, bodies: &SolverBodies) {
         listed.update(bodies);
     }
@@ -524,23 +543,31 @@ pub(crate) fn update<R: Row>(points: &Points, row: R) -> R {
     row.with(&listed)
 }
 
-/// The velocities after `warmstart`.
-pub(crate) fn warmstart<R: Row>(points: &Points, row: R) -> [Vector; POINTS] {
-    let mut bodies = points.bodies();
-    R::warmstart(&row.to_listed(), &mut bodies);
-    points.velocities(&bodies)
+/// The first phase of `solve_color_constraint`: the row with its peak, updated, and with its flag.
+pub(crate) fn update_phase<R: Row>(points: &Points, row: R, min_strain: Real) -> R {
+    let mut listed = row.to_listed();
+    R::begin(&mut listed);
+    R::update(&mut listed, &points.bodies());
+    let mut row = row.with(&listed);
+    *row.strained_mut() = R::is_strained(&listed, min_strain);
+    row
 }
 
-/// The row and the velocities after `solve`.
+/// The second: the row with its impulses scaled, and the velocities after `warmstart`.
+pub(crate) fn warm_phase<R: Row>(points: &Points, row: R, coeff: Real) -> (R, [Vector; POINTS]) {
+    let mut listed = row.to_listed();
+    let mut bodies = points.bodies();
+    R::scale(&mut listed, coeff);
+    R::warmstart(&listed, &mut bodies);
+    (row.with(&listed), points.velocities(&bodies))
+}
+
+/// The last phase, and that of a resweep: the row and the velocities after `solve`.
 pub(crate) fn solve<R: Row>(points: &Points, row: R) -> (R, [Vector; POINTS]) {
     let mut listed = row.to_listed();
     let mut bodies = points.bodies();
     R::solve(&mut listed, &mut bodies);
     (row.with(&listed), points.velocities(&bodies))
-}
-
-pub(crate) fn is_strained<R: Row>(row: R, min_strain: Real) -> bool {
-    R::is_strained(&row.to_listed(), min_strain)
 }
 
 /// The row and the velocities after `solve_color_constraint`.

@@ -1,14 +1,14 @@
 //! The oracle's run: document 01's worked frames, the row functions one after another, and what a run may not do.
 
-use oracle::answers::function;
+use oracle::branches::run_taken;
 use oracle::frames::{Frame, Sizes, exchanged_overflow, relisting, runs};
 use oracle::inputs::worked_distance;
 use oracle::layout::{HEAD, OVERFLOW, POINT, Record, SCALAR, START};
 use oracle::random::Random;
-use oracle::rows::{Head, POINTS, Point, Points, ScalarRow};
+use oracle::rows::{Points, ScalarRow};
 use oracle::run::run;
 use oracle::support::vector::Vector;
-use oracle::words::{Words, value_of, words_of};
+use oracle::words::words_of;
 
 const SMALL: Sizes = Sizes {
     large: usize::MAX,
@@ -78,68 +78,13 @@ fn words(frame: &Frame, (start, record): (usize, &'static Record)) -> Vec<u32> {
     record.parts().map(part).collect()
 }
 
-/// The run of a frame of at most five points, by the answers of the row functions.
-fn row_by_row(frame: &Frame) -> Frame {
-    let [n, _, mode, resweeps, warm, least]: [u32; 6] =
-        words(frame, frame.records[0]).try_into().expect("a head");
-    let head: Head = value_of(&[mode, warm, least]);
-    let none = Point {
-        position: Vector::ZERO,
-        velocity: Vector::ZERO,
-    };
-    let mut points = Points {
-        n,
-        points: [none; POINTS],
-    };
-    for (point, &placed) in points.points.iter_mut().zip(&frame.records[1..=n as usize]) {
-        *point = value_of(&words(frame, placed));
-    }
-    let rows = &frame.records[frame.rows()];
-    let mut list: Vec<_> = rows.iter().map(|&row| words(frame, row)).collect();
-    for sweep in 0..=resweeps {
-        for (row, (_, record)) in list.iter_mut().zip(rows) {
-            let name = record.name.replace('-', "_").to_lowercase();
-            let mut input = Vec::new();
-            if sweep == 0 {
-                head.write(&mut input);
-            }
-            points.write(&mut input);
-            input.extend(&row[..]);
-            let step = match sweep {
-                0 => "main_step",
-                _ => "resweep_step",
-            };
-            let output = (function(&format!("{name}_{step}")).answer)(&input);
-            let (after, velocities) = output.split_at(row.len());
-            row.copy_from_slice(after);
-            let velocities: [Vector; POINTS] = value_of(velocities);
-            for (point, velocity) in points.points.iter_mut().zip(velocities) {
-                point.velocity = velocity;
-            }
-        }
-    }
-    let mut after = Frame::default();
-    after.push_words(&HEAD, &[n, list.len() as u32, mode, resweeps, warm, least]);
-    for point in &points.points[..n as usize] {
-        after.push_words(&POINT, &words_of(point));
-    }
-    for (row, (_, record)) in list.iter().zip(rows) {
-        after.push_words(record, row);
-    }
-    after
-}
-
+/// The phases that the table of answers has, one after another: what `solve_color_constraint` does in one call.
 #[test]
 fn the_row_functions_one_after_another() {
     let random = &mut Random::new(1, "row by row");
-    let mut compared = 0;
-    while compared < 2000 {
+    for _ in 0..2000 {
         let (_, frame) = runs(random, SMALL);
-        if frame.get(0, "points", 0) > POINTS as u32 {
-            continue;
-        }
-        compared += 1;
-        let expected = row_by_row(&frame);
+        let (expected, _) = run_taken(&frame);
         let after = ran(frame);
         assert!(after.bytes == expected.bytes);
     }

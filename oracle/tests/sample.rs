@@ -2,10 +2,12 @@
 
 use oracle::answers::{FUNCTIONS, function};
 use oracle::random::Random;
+use oracle::run::run;
 use std::{fs, path::Path};
 
 /// Where they lie, seen from here: the data of the programs that replay them.
-const SAMPLES: [&str; 2] = ["../crates/replay_arith/data", "../crates/replay_rows/data"];
+const ARITHMETIC: &str = "../crates/replay_arith/data";
+const RUNS: &str = "../crates/replay_runs";
 
 /// The words of a little-endian file.
 fn words(place: &Path) -> Vec<u32> {
@@ -15,14 +17,8 @@ fn words(place: &Path) -> Vec<u32> {
 }
 
 #[test]
-fn samples_are_the_oracles() {
-    let functions: usize = SAMPLES.iter().map(|sample| check(sample)).sum();
-    assert_eq!(functions, FUNCTIONS.len());
-}
-
-/// Checks a folder, and answers how many functions it has.
-fn check(sample: &str) -> usize {
-    let sample = Path::new(env!("CARGO_MANIFEST_DIR")).join(sample);
+fn arithmetic_is_the_oracles() {
+    let sample = Path::new(env!("CARGO_MANIFEST_DIR")).join(ARITHMETIC);
     let index = fs::read_to_string(sample.join("index.txt")).expect("the index");
     for line in index.lines() {
         let [name, inputs, outputs, records] = line.split(' ').collect::<Vec<_>>()[..] else {
@@ -48,7 +44,25 @@ fn check(sample: &str) -> usize {
             }
         }
     }
-    index.lines().count()
+}
+
+#[test]
+fn runs_are_the_oracles() {
+    let sample = Path::new(env!("CARGO_MANIFEST_DIR")).join(RUNS);
+    let file = fs::read(sample.join("data/runs")).expect("the runs");
+    let (mut rest, mut frames) = (&file[..], 0);
+    while let Some((head, more)) = rest.split_first_chunk::<12>() {
+        let [length, number, place] = [0, 4, 8]
+            .map(|at| u32::from_le_bytes(head[at..at + 4].try_into().expect("four bytes")));
+        let (frame, more) = more.split_at(length as usize);
+        let (after, more) = more.split_at(length as usize);
+        let mut own = frame.to_vec();
+        assert_eq!(run(&mut own), (number, place.into()), "{frames}");
+        assert!(own == after, "{frames}");
+        (rest, frames) = (more, frames + 1);
+    }
+    let said = fs::read_to_string(sample.join("stdout")).expect("what the program writes");
+    assert_eq!(said, format!("{frames} frames, 0 end otherwise\n"));
 }
 
 #[test]

@@ -3,7 +3,7 @@
 use oracle::answers::function;
 use oracle::inputs::{SPECIALS, next, previous, worked_distance};
 use oracle::random::Random;
-use oracle::rows::{Head, NeoHookeanRow, POINTS, Points, ScalarRow};
+use oracle::rows::{CorotationalRow, Head, NeoHookeanRow, POINTS, Points, ScalarRow};
 use oracle::support::na::{SMatrix, SVector};
 use oracle::support::vector::{Matrix, Vector};
 use oracle::words::{Words, bits, value_of, words_of};
@@ -97,10 +97,10 @@ fn updated_block(at: f32) -> (NeoHookeanRow, NeoHookeanRow) {
     // The fixed input that is at rest: strain 0 in every part.
     let made = function("neo_hookean_update");
     let words = (made.make)(&mut Random::new(1, ""), 0);
-    let (points, mut row): (Points, NeoHookeanRow) = value_of(&words);
+    let (points, mut row, least): (Points, NeoHookeanRow, f32) = value_of(&words);
     row.model.stiffness_strain = SVector([0.0; 6]);
     row.model.stiffness_strain.0[0] = at;
-    (row, ask("neo_hookean_update", &(points, row)))
+    (row, ask("neo_hookean_update", &(points, row, least)))
 }
 
 #[test]
@@ -130,10 +130,8 @@ fn caps_of_an_inverted_cell_stay() {
     // The fixed input whose cell is inside out, with caps of 0.25; and the one stretched to three times, with caps of 0.5.
     for (number, inverted, largest) in [(2, true, 0.25), (4, false, 1.0)] {
         let words = (update.make)(&mut Random::new(1, ""), number);
-        let (_, after): (Points, oracle::rows::CorotationalRow) = {
-            let (points, row): (Points, oracle::rows::CorotationalRow) = value_of(&words);
-            (points, ask("corotational_update", &(points, row)))
-        };
+        let input: (Points, CorotationalRow, f32) = value_of(&words);
+        let after: CorotationalRow = ask("corotational_update", &input);
         assert_eq!(after.inverted, inverted);
         let most = after
             .strain

@@ -30,7 +30,7 @@ use Rattle.rows.specs.Row.{namesOf, holdsOf}
 use Rattle.rows.specs.Step as step
 use Rattle.rows.specs.Step.{solveOf}
 use Rattle.floats.specs.Fields.{vec3At, fourAt, mat3At, quatAt, massesAt, idsAt, floatsAt, putVec3, putFloats}
-use Rattle.stored.specs.Read.{rowOf, constraintOf, scalarOf, springAt, responseAt, corotationalOf, cellOf, poseOf, impulsesOf, springsOf, volumeOf}
+use Rattle.stored.specs.Read.{rowOf, constraintOf, scalarOf, springAt, responseAt, corotationalOf, cellOf, poseOf, complianceOf, impulsesOf, springsOf, volumeOf}
 use Rattle.stored.specs.Put.{putSolve, solveConstraint, putImpulses}
 use Rattle.stored.specs.Points.{velocity, lose}
 use Rattle.stored.specs.Run.{swept, leaves}
@@ -47,7 +47,7 @@ accepted-both = (refl, refl)
 
 -- what the sweeps leave in the points of A₀, computed: each row has moved the points that it names
 swept₀ : swept A₀ .1 ≡ pointOf sevenEighths ∷ pointOf half ∷ pointOf threeQuarters ∷ pointOf sevenEighths ∷ []
-unfolding swept records endOf flatten le16 le32 step.solve solveOf s.solve rowOf constraintOf scalarOf springAt responseAt fourAt vec3At massesAt idsAt holdsOf row-rules.keyOf namesOf putSolve solveConstraint velocity lose putVec3 v.sub v.scale v.dot v.zeroVector s.totalOf s.soughtOf s.rateOf s.losses real.clamp isNan toBits ofBits ieee.ofFields ieee.lt ieee.le ieee.eq ieee.add ieee.sub ieee.neg ieee.mul ieee.div ieee.sum ieee.round ieee.units ieee.odd ieee.span ieee.climb ieee.size coro.solve co.solveCorotational co.solveRows co.strainStep co.residual strainRates localVelocities co.volumeStep co.volumeRate co.applied volumeLosses volumeLoss strainTensor strainRowsOf outerSum transpose mulVec add6 sub6 scale6 componentMul6 dot6 six.matVec six.row v.add corotationalOf cellOf poseOf impulsesOf springsOf volumeOf mat3At quatAt floatsAt putImpulses putFloats
+unfolding swept records endOf flatten le16 le32 step.solve solveOf s.solve rowOf constraintOf scalarOf springAt responseAt fourAt vec3At massesAt idsAt holdsOf row-rules.keyOf namesOf putSolve solveConstraint velocity lose putVec3 v.sub v.scale v.dot v.zeroVector s.totalOf s.soughtOf s.rateOf s.losses real.clamp isNan toBits ofBits ieee.ofFields ieee.lt ieee.le ieee.eq ieee.add ieee.sub ieee.neg ieee.mul ieee.div ieee.sum ieee.round ieee.units ieee.odd ieee.span ieee.climb ieee.size coro.solve co.solveCorotational co.solveRows co.strainStep co.residual strainRates localVelocities co.volumeStep co.volumeRate co.applied volumeLosses volumeLoss strainTensor strainRowsOf outerSum transpose mulVec add6 sub6 scale6 componentMul6 dot6 six.matVec six.row v.add corotationalOf cellOf poseOf impulsesOf complianceOf springsOf volumeOf mat3At quatAt floatsAt putImpulses putFloats
 swept₀ = refl
 
 -- of A₁, and of the same frame with its rows exchanged

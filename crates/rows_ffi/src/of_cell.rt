@@ -3,7 +3,6 @@ use vector::Four;
 use vector::Mat3;
 ghost use mathlib.Core.Path.{_≡_};
 ghost use Rattle.cell.specs.Strain as strain;
-ghost use Rattle.cell.specs.Cell as spec;
 
 #[no_mangle]
 pub extern "C" fn rt_strain_rows_of(m: Mat3, out: &mut [f32; 6])
@@ -38,11 +37,4 @@ pub extern "C" fn rt_strain_block_from_g(g: Mat3, out: &mut [f32; 36])
     ensures { λ _. ⌜ now (out .exit) ≡ strain.strainBlockFromG g ⌝ }
 {
     *out = cell::tensor::strain_block_from_g(g);
-}
-
-#[no_mangle]
-pub extern "C" fn rt_elastic_is_strained(e: &[f32; 6], least: f32) -> bool
-    ensures { λ t. ⌜ t ≡ spec.isStrained (now (e .entry)) least ⌝ }
-{
-    cell::update::is_strained(e, least)
 }

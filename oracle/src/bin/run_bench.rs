@@ -1,7 +1,8 @@
 //! Times the exported `run` beside the oracle's, in one process, on the same frames: `run_bench [ROUNDS]`.
 //!
-//! Sheets of scalar rows, of corotational cells, of neo-Hookean cells and of all together, in each mode, with 8 resweeps, of 64, 512 and
-//! 4,096 rows; the larger ones are the smallest several times. Every run starts from the frame as it was made; the copy is not timed.
+//! Sheets of scalar rows, of corotational cells, of neo-Hookean cells and of all together, in each mode: with 8 resweeps of 64, 512 and
+//! 4,096 rows, the larger ones the smallest several times; with 16 and with 64 resweeps of 4,096 rows. The more resweeps, the less the
+//! oracle's reading and writing counts. Every run starts from the frame as it was made; the copy is not timed.
 //! The oracle's time is that of reading the frame into the listed structs, in memory that is there, of the sweeps and of writing it back,
 //! without any test of the frame; the library's includes its `check`, whose time is printed too. Times are the processor's for this
 //! thread, so that other load on the machine counts little; the shortest of several is taken, and all take turns.
@@ -12,8 +13,10 @@ use oracle::run;
 use std::env;
 use std::hint::black_box;
 
-const RESWEEPS: u32 = 8;
-const SIZES: [usize; 3] = [64, 512, 4096];
+const SIZES: [usize; 3] = [64, 512, LARGEST];
+const LARGEST: usize = 4096;
+/// Resweeps, and the frames that are timed with so many.
+const RESWEEPS: [(u32, &[usize]); 3] = [(8, &SIZES), (16, &[LARGEST]), (64, &[LARGEST])];
 /// How many timings there are of each frame, where the command says no other number.
 const ROUNDS: usize = 20;
 
@@ -39,6 +42,7 @@ struct Times {
 }
 
 struct Case {
+    resweeps: u32,
     rows: usize,
     /// How often a row is solved, in all sweeps.
     solves: usize,
@@ -72,16 +76,16 @@ fn tiled(sheet: &Frame, copies: usize) -> Frame {
     frame
 }
 
-/// Sheets of 64 rows, so many that there are that many rows, in this mode. Without update all rows are flagged strained; with it those of
-/// the least strain 0 are.
-fn case(elements: &'static [Element], mode: u32, rows: usize) -> Case {
+/// Sheets of 64 rows, so many that there are that many rows, in this mode. All rows are flagged strained in the frame, so that without
+/// update each resweep solves every row; an update sets the flags anew, by a least strain of 0.
+fn case(elements: &'static [Element], mode: u32, resweeps: u32, rows: usize) -> Case {
     let asked = |side| Sheet {
         elements,
         side,
         rows: SIZES[0],
         colours: 64,
         mode,
-        resweeps: RESWEEPS,
+        resweeps,
         warm_coefficient: 0.9,
         least_strain: 0.0,
     };
@@ -101,8 +105,9 @@ fn case(elements: &'static [Element], mode: u32, rows: usize) -> Case {
         .rows()
         .filter(|&row| after.get(row, "strained", 0) == 1);
     Case {
+        resweeps,
         rows,
-        solves: rows + strained.count() * RESWEEPS as usize,
+        solves: rows + strained.count() * resweeps as usize,
         frame: frame.bytes,
         times: Times {
             library: f64::INFINITY,
@@ -149,7 +154,7 @@ impl Case {
     fn time(&mut self, copy: &mut Vec<u8>, sheet: &mut run::Sheet) {
         let (frame, times) = (&self.frame, &mut self.times);
         // Small frames are timed more often, so that each size has its share of quiet moments.
-        for _ in 0..SIZES[SIZES.len() - 1] / self.rows {
+        for _ in 0..LARGEST / self.rows {
             let library = timed(frame, copy, &mut |frame| {
                 assert_eq!(black_box(exported::run(frame)), (0, 0));
             });
@@ -176,33 +181,73 @@ impl Case {
 
     /// Nanoseconds for each row and sweep, a row that is not strained counting as swept.
     fn each(&self, time: f64) -> f64 {
-        time / (self.rows * (1 + RESWEEPS as usize)) as f64
+        time / (self.rows * (1 + self.resweeps as usize)) as f64
     }
+}
+
+/// A sheet in one mode with so many resweeps, in each size that is timed.
+struct Line {
+    name: &'static str,
+    mode: u32,
+    cases: Vec<Case>,
+}
+
+/// The lines of one number of resweeps.
+fn lines(resweeps: u32, sizes: &[usize]) -> Vec<Line> {
+    let of = |(name, elements): (&'static str, &'static [Element]), mode| Line {
+        name,
+        mode,
+        cases: sizes
+            .iter()
+            .map(|&rows| case(elements, mode, resweeps, rows))
+            .collect(),
+    };
+    let all = SHEETS.iter();
+    all.flat_map(|&sheet| (0..4).map(move |mode| of(sheet, mode)))
+        .collect()
 }
 
 fn main() {
     let rounds = env::args().nth(1);
     let rounds = rounds.map_or(ROUNDS, |text| text.parse().expect("a number"));
-    let mut lines = Vec::new();
-    for (name, elements) in SHEETS {
-        for mode in 0..4 {
-            lines.push((name, mode, SIZES.map(|rows| case(elements, mode, rows))));
-        }
-    }
+    let mut tables = RESWEEPS.map(|(resweeps, sizes)| lines(resweeps, sizes));
     let (mut copy, mut sheet) = (Vec::new(), run::Sheet::default());
     for _ in 0..rounds {
-        for (_, _, cases) in &mut lines {
-            for case in cases {
+        for line in tables.iter_mut().flatten() {
+            for case in &mut line.cases {
                 case.time(&mut copy, &mut sheet);
             }
         }
     }
     println!(
-        "nanoseconds for each row and sweep (a main sweep and {RESWEEPS} resweeps); the shortest of {rounds} rounds"
+        "nanoseconds for each row and sweep (a main sweep and the resweeps); the shortest of {rounds} rounds"
     );
     println!(
-        "oracle: reads, sweeps, writes; sweeps: the oracle's sweeps alone; growth: the library's last by its first"
+        "oracle: reads, sweeps, writes; sweeps: the oracle's sweeps alone; growth: the library's by that of the smallest frame"
     );
+    println!(
+        "modes 0 and 2: every row is flagged strained in the frame, so that each resweep solves every row"
+    );
+    println!(
+        "modes 1 and 3: the update sets the flags, by a least strain of 0; solved: how often a row is solved, in all sweeps"
+    );
+    for ((resweeps, _), lines) in RESWEEPS.iter().zip(&tables) {
+        print_table(*resweeps, lines);
+    }
+    println!();
+    for ((resweeps, sizes), lines) in RESWEEPS.iter().zip(&tables) {
+        for (size, rows) in sizes.iter().enumerate() {
+            print_all(
+                *resweeps,
+                *rows,
+                lines.iter().map(|line| &line.cases[size].times),
+            );
+        }
+    }
+}
+
+fn print_table(resweeps: u32, lines: &[Line]) {
+    println!("\n{resweeps} resweeps");
     println!(
         "{:<14}{:>5}{:>6}{:>8}{:>9}{:>7}{:>8}{:>8}{:>11}{:>11}{:>8}",
         "sheet",
@@ -215,14 +260,24 @@ fn main() {
         "sweeps",
         "to oracle",
         "to sweeps",
-        "growth"
+        if lines[0].cases.len() > 1 {
+            "growth"
+        } else {
+            ""
+        }
     );
-    for (name, mode, cases) in &lines {
+    for Line { name, mode, cases } in lines {
         for case in cases {
             let times = &case.times;
-            let growth = case.each(times.library) / cases[0].each(cases[0].times.library);
+            let growth = match cases.len() {
+                1 => String::new(),
+                _ => format!(
+                    "{:.2}",
+                    case.each(times.library) / cases[0].each(cases[0].times.library)
+                ),
+            };
             println!(
-                "{name:<14}{mode:>5}{:>6}{:>8}{:>9.1}{:>7.1}{:>8.1}{:>8.1}{:>11.2}{:>11.2}{growth:>8.2}",
+                "{name:<14}{mode:>5}{:>6}{:>8}{:>9.1}{:>7.1}{:>8.1}{:>8.1}{:>11.2}{:>11.2}{growth:>8}",
                 case.rows,
                 case.solves,
                 case.each(times.library),
@@ -234,17 +289,14 @@ fn main() {
             );
         }
     }
-    for size in 0..SIZES.len() {
-        let sum = |of: fn(&Times) -> f64| -> f64 {
-            let each = lines.iter().map(|(_, _, cases)| of(&cases[size].times));
-            each.sum()
-        };
-        println!(
-            "all {} sheets of {} rows: {:.2} of the oracle, {:.2} of its sweeps alone",
-            lines.len(),
-            SIZES[size],
-            sum(|times| times.library) / sum(|times| times.oracle),
-            sum(|times| times.library) / sum(|times| times.sweeps)
-        );
-    }
+}
+
+fn print_all<'a>(resweeps: u32, rows: usize, times: impl Iterator<Item = &'a Times> + Clone) {
+    let sum = |of: fn(&Times) -> f64| -> f64 { times.clone().map(of).sum() };
+    println!(
+        "all {} sheets of {rows} rows, {resweeps} resweeps: {:.2} of the oracle, {:.2} of its sweeps alone",
+        times.clone().count(),
+        sum(|times| times.library) / sum(|times| times.oracle),
+        sum(|times| times.library) / sum(|times| times.sweeps)
+    );
 }

@@ -34,9 +34,11 @@ macro_rules! joined {
 
 mod arithmetic;
 mod rows;
+mod runs;
 
 pub use arithmetic::*;
 pub use rows::*;
+pub use runs::{Taken, run_taken};
 
 /// The branches of one function.
 #[derive(Clone, Copy)]

@@ -136,15 +136,20 @@ const UPDATES: [&str; 3] = [
 ];
 
 pub const SCALAR_UPDATE: Branches = Branches {
-    labels: joined!(IDS, GRADIENTS, LENGTHS, DIHEDRALS, UPDATES),
+    labels: joined!(PEAKS, IDS, GRADIENTS, LENGTHS, DIHEDRALS, UPDATES, STRAINED),
     mark: |words, tally| {
-        let (points, row) = value_of(words);
-        mark_scalar_update(&points, &row, tally);
+        let (points, row, least) = value_of(words);
+        mark_scalar_update(&points, &row, least, tally);
     },
 };
 
-/// Marks the update's branches and gives the row after it.
-fn mark_scalar_update(points: &Points, row: &ScalarRow, tally: &mut Tally) -> ScalarRow {
+/// Marks the branches of the peak, the update and the flag.
+fn mark_scalar_update(points: &Points, row: &ScalarRow, least: Real, tally: &mut Tally) {
+    tally.hit(if row.peak_impulse >= row.impulse {
+        "peak stays"
+    } else {
+        "peak is the impulse"
+    });
     mark_ids(named(row), points.n, tally);
     let after = rows::update(points, *row);
     mark_gradients(&after, tally);
@@ -158,13 +163,13 @@ fn mark_scalar_update(points: &Points, row: &ScalarRow, tally: &mut Tally) -> Sc
         after.inv_lhs == 0.0,
         "inverse mass within 1.0e-20: inverse 0",
     );
-    after
+    mark_scalar_strained(&after, least, tally);
 }
 
 pub const SCALAR_WARMSTART: Branches = Branches {
     labels: &IDS,
     mark: |words, tally| {
-        let (points, row): (Points, ScalarRow) = value_of(words);
+        let (points, row, _): (Points, ScalarRow, Real) = value_of(words);
         mark_ids(named(&row), points.n, tally);
     },
 };
@@ -205,14 +210,6 @@ const STRAINED: [&str; 8] = [
     "strained",
     "not strained",
 ];
-
-pub const SCALAR_IS_STRAINED: Branches = Branches {
-    labels: &STRAINED,
-    mark: |words, tally| {
-        let (row, least) = value_of(words);
-        mark_scalar_strained(&row, least, tally);
-    },
-};
 
 fn above_zero(x: Real) -> bool {
     x > 0.0
@@ -272,14 +269,7 @@ pub const SCALAR_MAIN_STEP: Branches = Branches {
     mark: |words, tally| {
         let (head, points, row): (Head, Points, ScalarRow) = value_of(words);
         if head.mode & 1 != 0 {
-            let updated = mark_scalar_update(&points, &row, tally);
-            mark_scalar_strained(&updated, head.least_strain, tally);
-            let keeps = row.peak_impulse >= row.impulse;
-            tally.hit(if keeps {
-                "peak stays"
-            } else {
-                "peak is the impulse"
-            });
+            mark_scalar_update(&points, &row, head.least_strain, tally);
         }
         let (after, _) = rows::main_step(&head, &points, row);
         mark_mode(&head, row.strained, after.strained, tally);
@@ -359,11 +349,8 @@ const VOLUMES: [&str; 7] = [
 ];
 
 pub const COROTATIONAL_UPDATE: Branches = Branches {
-    labels: joined!(IDS, TURNS, CELLS, VOLUMES),
-    mark: |words, tally| {
-        let (points, row) = value_of(words);
-        mark_corotational_update(&points, &row, tally);
-    },
+    labels: joined!(IDS, TURNS, CELLS, VOLUMES, ELASTIC_STRAINED),
+    mark: |words, tally| mark_elastic_update(words, tally, mark_corotational_update),
 };
 
 fn mark_corotational_update(
@@ -455,11 +442,17 @@ const BLOCKS: [&str; 6] = [
 ];
 
 pub const NEO_HOOKEAN_UPDATE: Branches = Branches {
-    labels: joined!(IDS, TURNS, CELLS, BLOCKS, SWEEPS, FLOORS, PIVOTS),
-    mark: |words, tally| {
-        let (points, row) = value_of(words);
-        mark_neo_hookean_update(&points, &row, tally);
-    },
+    labels: joined!(
+        IDS,
+        TURNS,
+        CELLS,
+        BLOCKS,
+        SWEEPS,
+        FLOORS,
+        PIVOTS,
+        ELASTIC_STRAINED
+    ),
+    mark: |words, tally| mark_elastic_update(words, tally, mark_neo_hookean_update),
 };
 
 fn mark_neo_hookean_update(
@@ -510,21 +503,34 @@ fn mark_elastic_strained(strain: &Six, least: Real, tally: &mut Tally) {
     });
 }
 
-fn mark_elastic_ids<M>(words: &[u32], tally: &mut Tally)
+fn mark_elastic_warmstart<M>(words: &[u32], tally: &mut Tally)
 where
-    (Points, ElasticRow<M>): Words,
+    ElasticRow<M>: Words,
+{
+    let (points, row, _): (Points, ElasticRow<M>, Real) = value_of(words);
+    mark_ids(&row.ids, points.n, tally);
+}
+
+fn mark_elastic_solve<M>(words: &[u32], tally: &mut Tally)
+where
+    ElasticRow<M>: Words,
 {
     let (points, row): (Points, ElasticRow<M>) = value_of(words);
     mark_ids(&row.ids, points.n, tally);
 }
 
-fn mark_elastic_is_strained<M>(words: &[u32], tally: &mut Tally)
+/// Marks the branches of an elastic update and of the flag.
+fn mark_elastic_update<M>(words: &[u32], tally: &mut Tally, update: MarkUpdate<M>)
 where
     ElasticRow<M>: Words,
 {
-    let (row, least): (ElasticRow<M>, Real) = value_of(words);
-    mark_elastic_strained(&row.strain, least, tally);
+    let (points, row, least): (Points, ElasticRow<M>, Real) = value_of(words);
+    let updated = update(&points, &row, tally);
+    mark_elastic_strained(&updated.strain, least, tally);
 }
+
+/// Marks the branches of an elastic update alone, and gives the row after it.
+type MarkUpdate<M> = fn(&Points, &ElasticRow<M>, &mut Tally) -> ElasticRow<M>;
 
 fn mark_elastic_resweep<M>(words: &[u32], tally: &mut Tally)
 where
@@ -534,11 +540,8 @@ where
     mark_resweep(row.strained, tally);
 }
 
-fn mark_elastic_main<M>(
-    words: &[u32],
-    tally: &mut Tally,
-    update: fn(&Points, &ElasticRow<M>, &mut Tally) -> ElasticRow<M>,
-) where
+fn mark_elastic_main<M>(words: &[u32], tally: &mut Tally, update: MarkUpdate<M>)
+where
     ElasticRow<M>: Words + Row,
 {
     let (head, points, row): (Head, Points, ElasticRow<M>) = value_of(words);
@@ -552,12 +555,11 @@ fn mark_elastic_main<M>(
 
 pub const COROTATIONAL_WARMSTART: Branches = Branches {
     labels: &IDS,
-    mark: mark_elastic_ids::<Corotational>,
+    mark: mark_elastic_warmstart::<Corotational>,
 };
-pub const COROTATIONAL_SOLVE: Branches = COROTATIONAL_WARMSTART;
-pub const COROTATIONAL_IS_STRAINED: Branches = Branches {
-    labels: &ELASTIC_STRAINED,
-    mark: mark_elastic_is_strained::<Corotational>,
+pub const COROTATIONAL_SOLVE: Branches = Branches {
+    labels: &IDS,
+    mark: mark_elastic_solve::<Corotational>,
 };
 pub const COROTATIONAL_MAIN_STEP: Branches = Branches {
     labels: joined!(MODES, FLAGS, IDS, TURNS, CELLS, VOLUMES, ELASTIC_STRAINED),
@@ -569,12 +571,11 @@ pub const COROTATIONAL_RESWEEP_STEP: Branches = Branches {
 };
 pub const NEO_HOOKEAN_WARMSTART: Branches = Branches {
     labels: &IDS,
-    mark: mark_elastic_ids::<NeoHookean>,
+    mark: mark_elastic_warmstart::<NeoHookean>,
 };
-pub const NEO_HOOKEAN_SOLVE: Branches = NEO_HOOKEAN_WARMSTART;
-pub const NEO_HOOKEAN_IS_STRAINED: Branches = Branches {
-    labels: &ELASTIC_STRAINED,
-    mark: mark_elastic_is_strained::<NeoHookean>,
+pub const NEO_HOOKEAN_SOLVE: Branches = Branches {
+    labels: &IDS,
+    mark: mark_elastic_solve::<NeoHookean>,
 };
 pub const NEO_HOOKEAN_MAIN_STEP: Branches = Branches {
     labels: joined!(

@@ -11,7 +11,7 @@ mod values;
 
 pub use accepted::{Frame, accepted, kinds};
 pub use chance::{ACCEPTED, damaged, some};
-pub use runs::{SORTS, Sizes, exchanged_overflow, relisting, runs};
+pub use runs::{SORTS, Sizes, alone, exchanged_overflow, few, relisting, runs};
 pub use sheet::{Element, Sheet, sheet};
 
 use crate::random::Random;
@@ -35,7 +35,7 @@ pub fn each(seed: u64, count: u64, visit: &mut Visit) {
 }
 
 /// The number of two or four bytes at a place.
-fn number_at(bytes: &[u8], at: usize, width: usize) -> u32 {
+pub(crate) fn number_at(bytes: &[u8], at: usize, width: usize) -> u32 {
     let part = bytes[at..at + width].iter().rev();
     part.fold(0, |number, &byte| number << 8 | u32::from(byte))
 }

@@ -5,12 +5,12 @@ use super::accepted::{Colours, Frame, Taken, accepted, kinds};
 use super::sheet::{Element, Sheet, sheet};
 use crate::check::check;
 use crate::inputs::{
-    corotational_head_points_row, finite, finite_pattern, finite_special, head,
-    neo_hookean_head_points_row, plain, scalar_head_points_row,
+    corotational_head_points_row, finite, finite_pattern, finite_special, head, largest_strain,
+    neo_hookean_head_points_row, own_strain, plain, scalar_head_points_row,
 };
 use crate::layout::{COROTATIONAL, HEAD, Holds, MOST, OVERFLOW, POINT, Record, SCALAR};
 use crate::random::Random;
-use crate::rows::{Head, POINTS, Point, Points};
+use crate::rows::{Corotational, Head, NeoHookean, POINTS, Point, Points, ScalarRow};
 use crate::run::run;
 use crate::support::vector::Vector;
 use crate::words::{Words, value_of, words_of};
@@ -51,6 +51,75 @@ pub fn runs(random: &mut Random, sizes: Sizes) -> (usize, Frame) {
     };
     frame.put(0, "resweeps", 0, resweeps as u32);
     (sort, frame)
+}
+
+/// An accepted frame of one to five rows, with up to twelve points, and up to three resweeps.
+pub fn few(random: &mut Random) -> Frame {
+    let (points, rows) = (random.below(13), 1 + random.below(5));
+    let mut frame = match random.below(4) {
+        0 => disturbed_sheet(random, points, rows),
+        1 => {
+            let kinds = kinds(random, rows);
+            accepted(random, points as u32, &kinds)
+        }
+        _ => of_rows(random, points, rows),
+    };
+    frame.put(0, "resweeps", 0, random.below(4) as u32);
+    frame
+}
+
+/// A row alone with the points and the head that it asks for; the number is that of the input. Its least strain is now and then exactly
+/// the row's own.
+pub fn alone(random: &mut Random, record: &'static Record, number: usize) -> Frame {
+    let (head, mut points, mut row) = asked(random, record, number);
+    for point in &mut points.points {
+        for part in 0..3 {
+            if !point.velocity[part].is_finite() {
+                point.velocity[part] = finite(random);
+            }
+        }
+    }
+    let mut least = head.least_strain;
+    if random.one_in(4) {
+        least = own_least(record, &points, &mut row).unwrap_or(least);
+    }
+    let mut frame = Frame::default();
+    let (warm, least) = (head.warm_coefficient.to_bits(), least.to_bits());
+    let resweeps = random.below(3) as u32;
+    frame.push_words(&HEAD, &[points.n, 1, head.mode, resweeps, warm, least]);
+    for point in &points.points[..points.n as usize] {
+        frame.push_words(&POINT, &words_of(point));
+    }
+    frame.push_words(record, &row);
+    frame
+}
+
+/// A row of this kind as it is made for its main step: what is asked of the run, points, and the row's words.
+fn asked(random: &mut Random, record: &Record, number: usize) -> (Head, Points, Vec<u32>) {
+    let make = match record.kind {
+        kind if kind == SCALAR.kind => scalar_head_points_row,
+        kind if kind == COROTATIONAL.kind => corotational_head_points_row,
+        _ => neo_hookean_head_points_row,
+    };
+    let words = make(random, number);
+    let (head, rest) = words.split_at(Head::COUNT);
+    let (points, row) = rest.split_at(Points::COUNT);
+    (value_of(head), value_of(points), row.to_vec())
+}
+
+/// The least strain that is exactly the row's own after an update, if it is finite. A distance gets a rest of 1.
+fn own_least(record: &Record, points: &Points, row: &mut [u32]) -> Option<f32> {
+    let own = match record.kind {
+        kind if kind == SCALAR.kind => {
+            let mut scalar: ScalarRow = value_of(row);
+            scalar.rest = 1.0;
+            row.copy_from_slice(&words_of(&scalar));
+            own_strain(points, scalar)?
+        }
+        kind if kind == COROTATIONAL.kind => largest_strain::<Corotational>(points, value_of(row)),
+        _ => largest_strain::<NeoHookean>(points, value_of(row)),
+    };
+    own.is_finite().then_some(own)
 }
 
 fn counts(random: &mut Random, sizes: Sizes) -> (usize, usize) {
@@ -98,19 +167,11 @@ fn of_rows(random: &mut Random, points: usize, rows: usize) -> Frame {
     let mut placed: Vec<Option<Point>> = vec![None; points];
     let mut list = Vec::with_capacity(rows);
     for record in kinds(random, rows) {
-        let make = match record.kind {
-            kind if kind == SCALAR.kind => scalar_head_points_row,
-            kind if kind == COROTATIONAL.kind => corotational_head_points_row,
-            _ => neo_hookean_head_points_row,
-        };
         let number = match random.one_in(4) {
             true => random.below(32),
             false => usize::MAX,
         };
-        let words = make(random, number);
-        let (own, row) = words[Head::COUNT..].split_at(Points::COUNT);
-        let own: Points = value_of(own);
-        let mut row = row.to_vec();
+        let (_, own, mut row) = asked(random, record, number);
         taken.colour = colours.next(random);
         row[0] = taken.colour;
         name(random, &mut taken, &own, record, &mut row, &mut placed);

@@ -4,7 +4,9 @@ use super::arithmetic::{near_rotation, unit_rotation};
 use super::numbers::{
     SPECIALS, again, finite_special, mixed, next, plain, previous, special, words,
 };
-use super::scalar::{finite, four_places, head, ids, masses, points, put, unit_vector};
+use super::scalar::{
+    coefficient, finite, four_places, head, ids, masses, points, put, unit_vector,
+};
 use crate::dynamics::solver::soft_element_constraint::{
     NeoHookeanConstraint, SoftElasticConstraint, StrainMatrix, StrainVector, cofactor,
 };
@@ -444,7 +446,7 @@ fn head_points_row<R: Row + Words>(
     words_of(&(head, points, row))
 }
 
-fn row_strain<M: Copy>(
+fn points_row_strain<M: Copy>(
     random: &mut Random,
     number: usize,
     make: fn(&mut Random, usize) -> (Points, ElasticRow<M>),
@@ -452,17 +454,10 @@ fn row_strain<M: Copy>(
 where
     ElasticRow<M>: Row + Words,
 {
-    let number = again(random, number, FIRST);
-    let (points, mut row) = make(random, number);
-    row = rows::update(&points, row);
-    if random.one_in(8) {
-        row.strain.0[random.below(6)] = special(random);
-    }
+    let words = points_row(random, number, make);
+    let (points, row): (Points, ElasticRow<M>) = value_of(&words);
+    let largest = largest_strain(&points, row);
     // Often exactly the largest part, which does not count as above it.
-    let largest = row
-        .strain
-        .iter()
-        .fold(0.0f32, |most, part| most.max(part.abs()));
     let least = match random.below(5) {
         0 => 0.0,
         1 => finite(random),
@@ -470,7 +465,27 @@ where
         3 if largest > 0.0 => previous(largest),
         _ => largest,
     };
-    words_of(&(row, if least.is_finite() { least } else { 0.5 }))
+    words_of(&(points, row, if least.is_finite() { least } else { 0.5 }))
+}
+
+/// The largest part of a row's strain after an update.
+pub(crate) fn largest_strain<M: Copy>(points: &Points, row: ElasticRow<M>) -> f32
+where
+    ElasticRow<M>: Row,
+{
+    let strain = rows::update(points, row).strain;
+    let parts = strain.iter().map(|part| part.abs());
+    parts.fold(0.0, f32::max)
+}
+
+fn points_row_coeff<R: Row + Words>(
+    random: &mut Random,
+    number: usize,
+    make: fn(&mut Random, usize) -> (Points, R),
+) -> Vec<u32> {
+    let mut words = points_row(random, number, make);
+    words.push(bits(coefficient(random)));
+    words
 }
 
 pub fn corotational_points_row(random: &mut Random, number: usize) -> Vec<u32> {
@@ -481,8 +496,12 @@ pub fn corotational_head_points_row(random: &mut Random, number: usize) -> Vec<u
     head_points_row(random, number, corotational)
 }
 
-pub fn corotational_row_strain(random: &mut Random, number: usize) -> Vec<u32> {
-    row_strain(random, number, corotational)
+pub fn corotational_points_row_strain(random: &mut Random, number: usize) -> Vec<u32> {
+    points_row_strain(random, number, corotational)
+}
+
+pub fn corotational_points_row_coeff(random: &mut Random, number: usize) -> Vec<u32> {
+    points_row_coeff(random, number, corotational)
 }
 
 pub fn neo_hookean_points_row(random: &mut Random, number: usize) -> Vec<u32> {
@@ -493,8 +512,12 @@ pub fn neo_hookean_head_points_row(random: &mut Random, number: usize) -> Vec<u3
     head_points_row(random, number, neo_hookean)
 }
 
-pub fn neo_hookean_row_strain(random: &mut Random, number: usize) -> Vec<u32> {
-    row_strain(random, number, neo_hookean)
+pub fn neo_hookean_points_row_strain(random: &mut Random, number: usize) -> Vec<u32> {
+    points_row_strain(random, number, neo_hookean)
+}
+
+pub fn neo_hookean_points_row_coeff(random: &mut Random, number: usize) -> Vec<u32> {
+    points_row_coeff(random, number, neo_hookean)
 }
 
 /// A strain: none, small, as large as caps let it, inside out, or anything.

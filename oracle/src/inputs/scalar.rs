@@ -348,43 +348,6 @@ pub fn scalar_row(random: &mut Random, number: usize) -> Vec<u32> {
     words_of(&row)
 }
 
-/// A row as an update leaves it, and a least strain; often exactly the row's own.
-pub fn scalar_row_strain(random: &mut Random, number: usize) -> Vec<u32> {
-    let number = again(random, number, FIRST);
-    let (points, mut row) = scalar(random, number);
-    if !random.one_in(4) {
-        row.kind = 0;
-        row.count = 2;
-        row.rest = row.rest.abs();
-        row.erp_inv_dt = row.erp_inv_dt.abs();
-    }
-    // Without an update the error need not be 0 where `erp_inv_dt` is.
-    if number == 21 || random.one_in(8) {
-        row.erp_inv_dt = if random.one_in(2) { 0.0 } else { -0.0 };
-    } else {
-        row = rows::update(&points, row);
-    }
-    if random.one_in(8) {
-        row.rest = if random.one_in(2) { 0.0 } else { -0.0 };
-    }
-    let own = (row.rhs / row.erp_inv_dt).abs() / row.rest;
-    let least = match random.below(6) {
-        0 => 0.0,
-        1 => finite(random),
-        2 if own.is_finite() => {
-            // With a rest of 1 the two sides of the comparison are equal.
-            row.rest = 1.0;
-            (row.rhs / row.erp_inv_dt).abs()
-        }
-        3 if own.is_finite() && own > 0.0 => next(own),
-        _ => own,
-    };
-    if random.one_in(16) {
-        row = spoil(random, row, false);
-    }
-    words_of(&(row, if least.is_finite() { least } else { 0.5 }))
-}
-
 /// Points and a row: as they come, or after an update, now and then with one number spoilt.
 pub fn scalar_points_row(random: &mut Random, number: usize) -> Vec<u32> {
     let number = again(random, number, FIRST);
@@ -399,6 +362,48 @@ pub fn scalar_points_row(random: &mut Random, number: usize) -> Vec<u32> {
         row = spoil(random, row, false);
     }
     words_of(&(points, row))
+}
+
+/// Points, a row and a least strain; often exactly the row's own, or the next.
+pub fn scalar_points_row_strain(random: &mut Random, number: usize) -> Vec<u32> {
+    let (points, mut row): (Points, ScalarRow) = value_of(&scalar_points_row(random, number));
+    // Distances that can be strained, and their limits.
+    if number >= FIRST && random.one_in(2) {
+        row.kind = 0;
+        row.count = 2;
+        row.rest = random.pick(&[row.rest.abs(), row.rest.abs(), 1.0, 0.0, -0.0]);
+        row.erp_inv_dt = random.pick(&[row.erp_inv_dt.abs(), row.erp_inv_dt.abs(), 0.0, -0.0]);
+    }
+    let least = own_strain(&points, row).filter(|own| own.is_finite());
+    let least = match (least, random.below(4)) {
+        (Some(own), 0) => own,
+        (Some(own), 1) if own > 0.0 => next(own),
+        (_, 2) => finite(random),
+        _ => 0.5 * random.unit().abs(),
+    };
+    words_of(&(points, row, least))
+}
+
+/// The strain of a distance row after an update; with a rest of 1 it is exactly its limit.
+pub fn own_strain(points: &Points, row: ScalarRow) -> Option<f32> {
+    let updated = rows::update(points, row);
+    (row.kind == 0).then_some((updated.rhs / updated.erp_inv_dt).abs() / updated.rest)
+}
+
+/// Points, a row and a warm coefficient.
+pub fn scalar_points_row_coeff(random: &mut Random, number: usize) -> Vec<u32> {
+    let mut words = scalar_points_row(random, number);
+    words.push(bits(coefficient(random)));
+    words
+}
+
+/// A warm coefficient.
+pub fn coefficient(random: &mut Random) -> f32 {
+    match random.below(4) {
+        0 => 1.0,
+        1 => finite(random),
+        _ => random.unit().abs(),
+    }
 }
 
 /// Mode, warm coefficient and least strain.
@@ -416,11 +421,7 @@ pub fn head(random: &mut Random, number: usize) -> Head {
     }
     Head {
         mode: random.below(4) as u32,
-        warm_coefficient: match random.below(4) {
-            0 => 1.0,
-            1 => finite(random),
-            _ => random.unit().abs(),
-        },
+        warm_coefficient: coefficient(random),
         least_strain: match random.below(4) {
             0 => 0.0,
             1 => finite(random),

@@ -1,0 +1,2 @@
+-- What the proofs of replay_runs cite. Assumes nothing.
+pub mod Laws

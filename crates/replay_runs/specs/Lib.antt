@@ -1,0 +1,2 @@
+-- The entries of the file `runs`. Assumes nothing.
+pub mod Entries

@@ -1,0 +1,2 @@
+-- What the proofs of rows_ffi cite. Assumes nothing.
+pub mod Alone

@@ -1,0 +1,2 @@
+-- What the exports on a record's bytes answer. Assumes nothing.
+pub mod Record
