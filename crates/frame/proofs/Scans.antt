@@ -6,10 +6,11 @@ use mathlib.Core.List.{List}
 use native.Mathlib.Omega.{arith}
 use lib.ListN.{length}
 use Rattle.bytes.specs.Bytes.{le16}
+use Rattle.bytes.proofs.Parts.{le16-part}
 use Rattle.records.specs.declared.Due.{Due}
 use Rattle.records.specs.declared.Answer.{Answer}
 use Rattle.records.specs.Answers.{firstOf, refuseIf}
-use Rattle.records.specs.Records.{recordLength, recordTests, recordsTests, endOf}
+use Rattle.records.specs.Records.{recordLength, recordAt, recordTests, recordsTests, endOf}
 use Rattle.records.proofs.Rest.{Rest, rest-begin, rest-again, rest-stops, rest-ends}
 use Rattle.records.proofs.Firsts.{Zero, stop-at, go-on, first-append, passed-of}
 use Rattle.records.proofs.Shapes.{Shaped, record-passed, kind-of, longer}
@@ -46,6 +47,10 @@ module _ (w : Due) (s : List ℕ) (off c : ℕ) {r : Answer} (e : r ≡ firstOf 
 
   pub long : 26 ≤ recordLength s off
   long = omega (arith, longer (kind-of there))
+
+  -- the colour, read from the part that holds the record
+  pub colour-found : {d : ℕ} {b : List ℕ} → d ≡ le16 b 6 → b ≡ recordAt s off → d ≡ le16 s (off + 6)
+  colour-found f g = f ∙ ap (λ (l : List ℕ). le16 l 6) g ∙ le16-part s off (recordLength s off) 6 (omega (arith, long))
 
 module _ {w : Due} {s : List ℕ} {k at₀ i off c : ℕ} (t : Scanning w s k at₀ i off c) (h : i < k) {r : Answer} (e : r ≡ firstOf (recordTests w s off c)) where
   pub refuses : (Zero r → ⊥) → Scanned w k s at₀ (record { answer = r; end = off })

@@ -30,8 +30,9 @@ fn records_test(due: Due, k: usize, s: &[u8], at: usize) -> Scan
                 end: off,
             };
         }
-        colour = bytes::get_u16(s, off + layout::ROW_COLOUR);
-        off = off + (4 + (bytes::get_u32(s, off) as usize));
+        let b = records::record_at(s, off);
+        colour = bytes::get_u16(b, layout::ROW_COLOUR);
+        off = off + b.len();
         i = i + 1;
     }
     Scan {

@@ -36,7 +36,12 @@ fn nothing_lost() -> Lost
     ensures { λ r. ⌜ r ≡ spec.nothingLost ⌝ }
 {
     let z = vector::zero_vector();
-    let loss = Four { a: z, b: z, c: z, d: z };
+    let loss = Four {
+        a: z,
+        b: z,
+        c: z,
+        d: z,
+    };
     Lost { done: false, loss }
 }
 

@@ -48,12 +48,12 @@ returns c =
     rw (
       c .from-columns .ensures,
       joined-of (c .before .before .before .before .before .before .before .before .before .before .before .before .before .before .args .b .now) 230
-        (c .before .before .before .before .before .before .before .before .before .before .before .before .floats6-at .ensures)
-        (c .before .before .before .before .before .before .before .before .before .before .before .floats6-at2 .ensures)
-        (c .before .before .before .before .before .before .before .before .before .before .floats6-at3 .ensures)
-        (c .before .before .before .before .before .before .before .before .before .floats6-at4 .ensures)
-        (c .before .before .before .before .before .before .before .before .floats6-at5 .ensures)
-        (c .before .before .before .before .before .before .before .floats6-at6 .ensures),
+          (c .before .before .before .before .before .before .before .before .before .before .before .before .floats6-at .ensures)
+          (c .before .before .before .before .before .before .before .before .before .before .before .floats6-at2 .ensures)
+          (c .before .before .before .before .before .before .before .before .before .before .floats6-at3 .ensures)
+          (c .before .before .before .before .before .before .before .before .before .floats6-at4 .ensures)
+          (c .before .before .before .before .before .before .before .before .floats6-at5 .ensures)
+          (c .before .before .before .before .before .before .before .floats6-at6 .ensures),
     )
     refl
 

@@ -17,11 +17,11 @@ same-length : tie.Need-same-length
 same-length c = search needs
 
 returns : tie.Need-returns
-returns c =     rw (
-      c .before .before .put-strained .ensures,
-      c .before .before .before .before .before .before .before .put-volume .ensures,
-      c .before .before .before .before .before .before .before .before .before .before .before .put-pose .ensures,
-    )
+returns c = rw (
+  c .before .before .put-strained .ensures,
+  c .before .before .before .before .before .before .before .put-volume .ensures,
+  c .before .before .before .before .before .before .before .before .before .before .before .put-pose .ensures,
+)
     refl
 
 pub put-updated-spec : {M : Type 1} → statement M

@@ -22,19 +22,21 @@ volume-anew-requires c κs = search needs
 
 returns : tie.Need-returns
 unfolding update cellOf poseOf corotationalOf posAnew deformationAnew posedAnew volumeAnew
-returns c =     (rw (
-          c .before .posed-anew .ensures,
-          c .before .before .deformation-anew .ensures,
-          c .before .before .before .pos-anew .ensures,
-        )
-        refl,
-    rw (
-          c .volume-anew .ensures,
-          c .before .posed-anew .ensures,
-          c .before .before .deformation-anew .ensures,
-          c .before .before .before .pos-anew .ensures,
-        )
-        refl)
+returns c = (
+  rw (
+    c .before .posed-anew .ensures,
+    c .before .before .deformation-anew .ensures,
+    c .before .before .before .pos-anew .ensures,
+  )
+      refl,
+  rw (
+    c .volume-anew .ensures,
+    c .before .posed-anew .ensures,
+    c .before .before .deformation-anew .ensures,
+    c .before .before .before .pos-anew .ensures,
+  )
+      refl,
+)
 
 pub updated-spec : {M : Type 1} → statement M
 updated-spec =

@@ -25,14 +25,14 @@ update-volume-requires c κs = search needs
 
 returns : tie.Need-returns
 unfolding volumeAnew
-returns c =     rw (
-      c .update-volume .ensures,
-      c .before .compliance-of .ensures,
-      c .before .before .springs-of .ensures,
-      c .before .before .before .masses-at .ensures,
-      c .before .before .before .before .four-at .ensures,
-      c .before .before .before .before .before .mat3-at .ensures,
-    )
+returns c = rw (
+  c .update-volume .ensures,
+  c .before .compliance-of .ensures,
+  c .before .before .springs-of .ensures,
+  c .before .before .before .masses-at .ensures,
+  c .before .before .before .before .four-at .ensures,
+  c .before .before .before .before .before .mat3-at .ensures,
+)
     refl
 
 pub volume-anew-spec : {M : Type 1} → statement M

@@ -2,7 +2,7 @@
 use Prim.Native.Nat.{_-_}
 use native.Mathlib.Omega.{arith}
 use borrow.Author.Needs.{needs}
-use Rattle.frame.proofs.Scans.{Scanning, begins, whole, long, refuses, again, ends}
+use Rattle.frame.proofs.Scans.{Scanning, begins, whole, long, colour-found, refuses, again, ends}
 use Rattle.frame.proofs.records_test.Statement.{statement}
 use Rattle.frame.proofs.records_test.Tie as tie
 
@@ -21,23 +21,14 @@ record-test-requires c κs = search needs
 returns : tie.Need-returns Inv-loop μ-loop
 returns c = refuses (c .before .before .before .before .loop .inv) (omega arith) (c .before .before .record-test .ensures) (c .if1 .taken)
 
-add-get-u16 : tie.Need-add-get-u16 Inv-loop μ-loop
-add-get-u16 c = omega (arith, whole _ _ _ _ (c .before .before .record-test .ensures) (c .if1 .left), long _ _ _ _ (c .before .before .record-test .ensures) (c .if1 .left))
+record-at-requires : tie.Need-record-at-requires Inv-loop μ-loop
+record-at-requires c κs = whole _ _ _ _ (c .before .before .record-test .ensures) (c .if1 .left)
 
 get-u16-requires : tie.Need-get-u16-requires Inv-loop μ-loop
-get-u16-requires c κs = omega (arith, whole _ _ _ _ (c .before .before .record-test .ensures) (c .if1 .left), long _ _ _ _ (c .before .before .record-test .ensures) (c .if1 .left))
-
-get-u32-requires : tie.Need-get-u32-requires Inv-loop μ-loop
-get-u32-requires c κs = omega (arith, whole _ _ _ _ (c .before .before .before .record-test .ensures) (c .before .if1 .left))
-
-cast-off : tie.Need-cast-off Inv-loop μ-loop
-cast-off c = omega arith
+get-u16-requires c κs = omega (arith, c .record-at .ensures .1, long _ _ _ _ (c .before .before .before .record-test .ensures) (c .before .if1 .left))
 
 add-off : tie.Need-add-off Inv-loop μ-loop
-add-off c = omega arith
-
-add-off-2 : tie.Need-add-off-2 Inv-loop μ-loop
-add-off-2 c = omega (arith, whole _ _ _ _ (c .before .before .before .before .record-test .ensures) (c .before .before .if1 .left), c .get-u32 .ensures)
+add-off c = omega (arith, whole _ _ _ _ (c .before .before .before .before .record-test .ensures) (c .before .before .if1 .left), c .before .record-at .ensures .1)
 
 add-i : tie.Need-add-i Inv-loop μ-loop
 add-i c = omega arith
@@ -46,7 +37,9 @@ loop-less : tie.Need-loop-less Inv-loop μ-loop
 loop-less c = omega arith
 
 loop-again : tie.Need-loop-again Inv-loop μ-loop
-loop-again c = again (c .before .before .before .before .before .before .loop .inv) (omega arith) (c .before .before .before .before .record-test .ensures) _ _ (c .before .before .if1 .left) (omega (arith, c .get-u32 .ensures)) (c .before .get-u16 .ensures)
+loop-again c =
+    again (c .before .before .before .before .before .before .loop .inv) (omega arith) (c .before .before .before .before .record-test .ensures) _ _ (c .before .before .if1 .left) (omega (arith, c .before .record-at .ensures .1))
+    (colour-found _ _ _ _ (c .before .before .before .before .record-test .ensures) (c .before .before .if1 .left) (c .get-u16 .ensures) (c .before .record-at .ensures .0))
 
 refuse-if-requires : tie.Need-refuse-if-requires Inv-loop μ-loop
 refuse-if-requires c κs = search needs
@@ -63,12 +56,9 @@ records-test-spec =
     loop-holds
     record-test-requires
     returns
-    add-get-u16
+    record-at-requires
     get-u16-requires
-    get-u32-requires
-    cast-off
     add-off
-    add-off-2
     add-i
     loop-less
     loop-again

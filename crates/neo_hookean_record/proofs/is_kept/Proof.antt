@@ -11,10 +11,10 @@ is-fresh-requires : tie.Need-is-fresh-requires
 is-fresh-requires c κs = search needs
 
 returns : tie.Need-returns
-returns c =     rw (
-      c .is-fresh .ensures,
-      c .before .before .before .floats6-at .ensures,
-    )
+returns c = rw (
+  c .is-fresh .ensures,
+  c .before .before .before .floats6-at .ensures,
+)
     refl
 
 pub is-kept-spec : {M : Type 1} → statement M

@@ -14,10 +14,10 @@ same-length : tie.Need-same-length
 same-length c = search needs
 
 returns : tie.Need-returns
-returns c =     rw (
-      c .before .before .put-strains .ensures,
-      c .before .before .before .before .before .before .put-pose .ensures,
-    )
+returns c = rw (
+  c .before .before .put-strains .ensures,
+  c .before .before .before .before .before .before .put-pose .ensures,
+)
     refl
 
 pub put-kept-spec : {M : Type 1} → statement M

@@ -17,11 +17,11 @@ same-length : tie.Need-same-length
 same-length c = search needs
 
 returns : tie.Need-returns
-returns c =     rw (
-      c .before .before .put-strains .ensures,
-      c .before .before .before .before .before .before .put-block .ensures,
-      c .before .before .before .before .before .before .before .before .before .before .put-pose .ensures,
-    )
+returns c = rw (
+  c .before .before .put-strains .ensures,
+  c .before .before .before .before .before .before .put-block .ensures,
+  c .before .before .before .before .before .before .before .before .before .before .put-pose .ensures,
+)
     refl
 
 pub put-renewed-spec : {M : Type 1} → statement M

@@ -16,10 +16,10 @@ same-length c = search needs
 
 returns : tie.Need-returns
 unfolding putStrains
-returns c =     rw (
-      c .before .before .put-strained .ensures,
-      c .before .before .before .before .before .before .before .put-floats6 .ensures,
-    )
+returns c = rw (
+  c .before .before .put-strained .ensures,
+  c .before .before .before .before .before .before .before .put-floats6 .ensures,
+)
     refl
 
 pub put-strains-spec : {M : Type 1} → statement M

@@ -19,12 +19,12 @@ renewed-requires c κs = search needs
 
 returns : tie.Need-returns
 unfolding blockAnew
-returns c =     rw (
-      c .renewed .ensures,
-      c .before .before .before .material-of .ensures,
-      c .before .before .before .before .masses-at .ensures,
-      c .before .before .before .before .before .four-at .ensures,
-    )
+returns c = rw (
+  c .renewed .ensures,
+  c .before .before .before .material-of .ensures,
+  c .before .before .before .before .masses-at .ensures,
+  c .before .before .before .before .before .four-at .ensures,
+)
     refl
 
 pub renewed-spec : {M : Type 1} → statement M

@@ -50,18 +50,18 @@ floats6-at-requires-8 c κs = search needs
 
 returns : tie.Need-returns
 unfolding stiffnessOf
-returns c =     rw (
-      c .floats6-at8 .ensures,
-      c .before .from-columns .ensures,
-      joined-of (c .before .before .before .before .before .before .before .before .before .before .before .before .before .before .before .before .args .b .now) 510
-        (c .before .before .before .before .before .before .before .before .before .before .before .before .before .floats6-at2 .ensures)
-        (c .before .before .before .before .before .before .before .before .before .before .before .before .floats6-at3 .ensures)
-        (c .before .before .before .before .before .before .before .before .before .before .before .floats6-at4 .ensures)
-        (c .before .before .before .before .before .before .before .before .before .before .floats6-at5 .ensures)
-        (c .before .before .before .before .before .before .before .before .before .floats6-at6 .ensures)
-        (c .before .before .before .before .before .before .before .before .floats6-at7 .ensures),
-      c .before .before .before .before .before .before .before .before .before .before .before .before .before .before .floats6-at .ensures,
-    )
+returns c = rw (
+  c .floats6-at8 .ensures,
+  c .before .from-columns .ensures,
+  joined-of (c .before .before .before .before .before .before .before .before .before .before .before .before .before .before .before .before .args .b .now) 510
+      (c .before .before .before .before .before .before .before .before .before .before .before .before .before .floats6-at2 .ensures)
+      (c .before .before .before .before .before .before .before .before .before .before .before .before .floats6-at3 .ensures)
+      (c .before .before .before .before .before .before .before .before .before .before .before .floats6-at4 .ensures)
+      (c .before .before .before .before .before .before .before .before .before .before .floats6-at5 .ensures)
+      (c .before .before .before .before .before .before .before .before .before .floats6-at6 .ensures)
+      (c .before .before .before .before .before .before .before .before .floats6-at7 .ensures),
+  c .before .before .before .before .before .before .before .before .before .before .before .before .before .before .floats6-at .ensures,
+)
     refl
 
 pub stiffness-of-spec : {M : Type 1} → statement M

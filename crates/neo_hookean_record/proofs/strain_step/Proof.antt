@@ -20,12 +20,12 @@ eased-at-requires c κs = search needs
 
 returns : tie.Need-returns
 unfolding strainStep strainStepAt
-returns c =     rw (
-      c .eased-at .ensures,
-      c .before .before .pulled .ensures,
-      c .before .before .before .before .stiffness-of .ensures,
-      c .before .before .before .before .before .strain-rates .ensures,
-    )
+returns c = rw (
+  c .eased-at .ensures,
+  c .before .before .pulled .ensures,
+  c .before .before .before .before .stiffness-of .ensures,
+  c .before .before .before .before .before .strain-rates .ensures,
+)
     refl
 
 pub strain-step-spec : {M : Type 1} → statement M

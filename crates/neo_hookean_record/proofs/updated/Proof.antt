@@ -16,11 +16,11 @@ dt-grad-anew-requires c κs = search needs
 
 returns : tie.Need-returns
 unfolding updateAnew
-returns c =     rw (
-      c .dt-grad-anew .ensures,
-      c .before .energy-anew .ensures,
-      c .before .before .before .before .pose-anew .ensures,
-    )
+returns c = rw (
+  c .dt-grad-anew .ensures,
+  c .before .energy-anew .ensures,
+  c .before .before .before .before .pose-anew .ensures,
+)
     refl
 
 pub updated-spec : {M : Type 1} → statement M

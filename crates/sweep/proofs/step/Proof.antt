@@ -35,7 +35,7 @@ warm-if-requires : tie.Need-warm-if-requires
 warm-if-requires c κs = ((stands _ _ _ _ _ _ (c .before .before .before .before .before .before .before .before .before .before .before .before .before .before .pre .0) (c .before .before .before .before .update-if .ensures), c .before .before .before .before .before .before .before .before .before .before .before .before .before .before .pre .1), names-after _ _ (c .before .before .before .before .before .before .before .before .before .before .before .before .before .before .pre .0) _ (c .before .before .before .before .before .before .before .names-at .ensures ∙ ap namesAt (c .before .before .before .before .before .before .before .before .before .before .before .record-at .ensures .0)) _ (update-stay _ (c .before .before .before .before .before .before .before .before .before .before .before .before .before .before .args .t .update) (c .before .before .before .before .before .before .before .before .before .before .before .before .before .before .args .t .least)) _ _ (c .before .before .before .before .update-if .ensures))
 
 solve-at-requires : tie.Need-solve-at-requires
-solve-at-requires c κs = 
+solve-at-requires c κs =
     let y = stands _ _ _ _ _ _ (c .before .before .before .before .before .before .before .before .before .before .before .before .before .before .before .before .before .before .before .pre .0) (c .before .before .before .before .before .before .before .before .before .update-if .ensures) in
     ((stands _ _ _ _ _ _ y (c .before .before .before .before .warm-if .ensures .0), c .before .before .before .before .warm-if .ensures .1), names-after _ _ y _ (names-after _ _ (c .before .before .before .before .before .before .before .before .before .before .before .before .before .before .before .before .before .before .before .pre .0) _ (c .before .before .before .before .before .before .before .before .before .before .before .before .names-at .ensures ∙ ap namesAt (c .before .before .before .before .before .before .before .before .before .before .before .before .before .before .before .before .record-at .ensures .0)) _ (update-stay _ (c .before .before .before .before .before .before .before .before .before .before .before .before .before .before .before .before .before .before .before .args .t .update) (c .before .before .before .before .before .before .before .before .before .before .before .before .before .before .before .before .before .before .before .args .t .least)) _ _ (c .before .before .before .before .before .before .before .before .before .update-if .ensures)) _ (warm-stay _ (c .before .before .before .before .before .before .before .before .before .before .before .before .before .before .before .before .before .before .before .args .t .warm) (c .before .before .before .before .before .before .before .before .before .before .before .before .before .before .before .before .before .before .before .args .t .coeff)) _ _ (c .before .before .before .before .warm-if .ensures .0))
 
@@ -43,7 +43,7 @@ same-length-2 : tie.Need-same-length-2
 same-length-2 c = search needs
 
 returns-2 : tie.Need-returns-2
-returns-2 c = 
+returns-2 c =
     (gone _ _ _ (c .before .before .before .before .before .before .before .before .before .before .before .before .before .before .before .before .before .before .before .before .before .before .args .t) _ _ _ (c .before .before .before .before .before .before .before .before .before .before .before .before .before .before .before .before .before .before .is-strained .ensures ∙ ap isStrainedAt (c .before .before .before .before .before .before .before .before .before .before .before .before .before .before .before .before .before .before .before .record-at .ensures .0 ∙ record-apart _ _ (c .before .before .before .before .before .before .before .before .before .before .before .before .before .before .before .before .before .before .before .before .before .before .pre .0))) (c .before .before .before .before .before .before .before .before .before .before .before .before .before .before .before .before .if1 .left) (after _ _ _ _ _ _ _ _ (after _ _ _ _ _ _ _ _ (c .before .before .before .before .before .before .before .before .before .before .before .before .update-if .ensures) (c .before .before .before .before .before .before .before .warm-if .ensures .0)) (c .before .before .solve-at .ensures .0)), c .before .before .solve-at .ensures .1)
 
 pub step-spec : {M : Type 1} → statement M

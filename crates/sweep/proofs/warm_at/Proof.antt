@@ -21,10 +21,11 @@ same-length : tie.Need-same-length
 same-length c = search needs
 
 returns : tie.Need-returns
-returns c = 
-    let p = c .before .before .before .before .before .before .before .pre in
-    (warmed-apart _ _ (p .0 .0) _ (p .1) (p .0 .1) _ (omega (arith, room-apart _ _ (p .0 .0) .points)) _ _ (c .take .ensures) _ (c .before .before .before .before .warm-row .ensures .0) (c .before .before .before .before .warm-row .ensures .1),
-    subst Fit (sym (c .take .ensures)) (fit-lost _ _ _ _ (p .0 .1)))
+returns c =
+    let p = c .before .before .before .before .before .before .before .pre in (
+      warmed-apart _ _ (p .0 .0) _ (p .1) (p .0 .1) _ (omega (arith, room-apart _ _ (p .0 .0) .points)) _ _ (c .take .ensures) _ (c .before .before .before .before .warm-row .ensures .0) (c .before .before .before .before .warm-row .ensures .1),
+      subst Fit (sym (c .take .ensures)) (fit-lost _ _ _ _ (p .0 .1)),
+    )
 
 pub warm-at-spec : {M : Type 1} → statement M
 warm-at-spec =
