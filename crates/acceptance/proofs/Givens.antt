@@ -13,16 +13,17 @@ use Rattle.records.specs.declared.Due.{Due}
 use Rattle.records.specs.Answers.{refused, accepted, firstOf}
 use Rattle.records.specs.Fields.{fields}
 use Rattle.records.specs.Records.{isDue, recordLength, recordAt, shape, recordTests}
-use Rattle.records.proofs.ByKind.{due-kind}
-use Rattle.records.proofs.Shapes.{Shaped, shaped, shape-passes, longer}
+use Rattle.records.proofs.Shapes.{Shaped, shaped, shape-passes}
 use Rattle.frame.specs.Frames.{countN, countR, rowsAt, rowsEnd}
 use Rattle.frame.specs.Check.{extra, checkOf}
 use Rattle.acceptance.specs.Whole.{Whole}
 use Rattle.acceptance.specs.Given.{Given1, Given2, GivenField, Given8, Given9}
+use Rattle.acceptance.specs.Faults.{Given3, Given4, Given5, Given6, Given7}
 use Rattle.acceptance.proofs.Numbers.{number-is, place-is, refused-not, answer-split, answer-left, answer-right, first-failure, answer-from, from-answer, within-answer, shape-in, fields-in, extra-in, clash-in}
 use Rattle.acceptance.proofs.Wholes.{accepted-whole, whole-accepted, no-extra, extra-passes}
 use Rattle.acceptance.proofs.Reaching.{to-record, of-record, to-last, of-last}
 use Rattle.acceptance.proofs.Meets.{to-meet, of-meet}
+use Rattle.acceptance.proofs.Cases.{shape-of, field-3, field-4, field-5, field-6, field-7}
 
 -- ---- one record
 
@@ -84,10 +85,6 @@ module _ (w : Due) (s : List ℕ) (off c : ℕ) where
   unfolding recordTests
   by-fields n k x e = answer-right (shape w s off) _ (shape-passes w s off x) ∙ from-answer off (fields (recordAt s off) c) n k e
 
--- a record whose field is refused has its shape
-shape-of : {n : ℕ} {s : List ℕ} {p : ℕ} (g : GivenField n s p) → Shaped (g .due) s (g .off)
-shape-of {n} {s} g = record { six = omega (arith, g .whole, longer (due-kind (g .due) (le16 s (g .off + 4)) (le32 s (g .off)) (g .here))); due = g .here; whole = g .whole }
-
 extra-is : (s : List ℕ) (p : ℕ) → firstOf (extra s) ≡ refused 8 p → (p ≡ rowsEnd s) × (rowsEnd s < length s)
 unfolding extra firstOf
 extra-is s p e = go (ltb (rowsEnd s) (length s)) refl e
@@ -99,6 +96,9 @@ extra-is s p e = go (ltb (rowsEnd s) (length s)) refl e
 is-extra : (s : List ℕ) (p : ℕ) → p ≡ rowsEnd s → rowsEnd s < length s → firstOf (extra s) ≡ refused 8 p
 unfolding extra firstOf
 is-extra s p e h = simp (lt-ltb (rowsEnd s) (length s) h) (ap (refused 8) (sym e))
+
+through : {A B C : Type 0} → A ↔ B → B ↔ C → A ↔ C
+through p q = (λ x. q .0 (p .0 x), λ z. p .1 (q .1 z))
 
 -- ---- THE THEOREMS
 
@@ -147,6 +147,7 @@ module _ (s : List ℕ) (p : ℕ) where
         refuses = by-shape (g .due) s p (g .colour) 1 p (of-other (g .due) s p (g .colour) (g .six, g .other));
       })
 
+  -- 3 to 7: the tests of a record's fields
   pub given-field : (n : ℕ) → 3 ≤ suc n → suc n ≤ 7 → checkOf s ≡ refused (suc n) p ↔ GivenField (suc n) s p
   given-field n lo hi = (to, back)
     where
@@ -173,23 +174,24 @@ module _ (s : List ℕ) (p : ℕ) where
         off = g .off;
         colour = g .colour;
         reached = g .reached;
-        refuses = by-fields (g .due) s (g .off) (g .colour) n (g .k) (shape-of g) (first-failure _ n (g .k) .1 (g .first)) ∙ ap (refused (suc n)) (sym (g .place));
+        refuses = by-fields (g .due) s (g .off) (g .colour) n (g .k) (shape-of (g .due) s (g .off) (g .here) (g .whole)) (first-failure _ n (g .k) .1 (g .first)) ∙ ap (refused (suc n)) (sym (g .place));
       })
 
-  pub given-3 : checkOf s ≡ refused 3 p ↔ GivenField 3 s p
-  given-3 = given-field 2 (omega arith) (omega arith)
+  -- and so, in the table's words
+  pub given-3 : checkOf s ≡ refused 3 p ↔ Given3 s p
+  given-3 = through (given-field 2 (omega arith) (omega arith)) (field-3 s p)
 
-  pub given-4 : checkOf s ≡ refused 4 p ↔ GivenField 4 s p
-  given-4 = given-field 3 (omega arith) (omega arith)
+  pub given-4 : checkOf s ≡ refused 4 p ↔ Given4 s p
+  given-4 = through (given-field 3 (omega arith) (omega arith)) (field-4 s p)
 
-  pub given-5 : checkOf s ≡ refused 5 p ↔ GivenField 5 s p
-  given-5 = given-field 4 (omega arith) (omega arith)
+  pub given-5 : checkOf s ≡ refused 5 p ↔ Given5 s p
+  given-5 = through (given-field 4 (omega arith) (omega arith)) (field-5 s p)
 
-  pub given-6 : checkOf s ≡ refused 6 p ↔ GivenField 6 s p
-  given-6 = given-field 5 (omega arith) (omega arith)
+  pub given-6 : checkOf s ≡ refused 6 p ↔ Given6 s p
+  given-6 = through (given-field 5 (omega arith) (omega arith)) (field-6 s p)
 
-  pub given-7 : checkOf s ≡ refused 7 p ↔ GivenField 7 s p
-  given-7 = given-field 6 (omega arith) (omega arith)
+  pub given-7 : checkOf s ≡ refused 7 p ↔ Given7 s p
+  given-7 = through (given-field 6 (omega arith) (omega arith)) (field-7 s p)
 
   pub given-8 : checkOf s ≡ refused 8 p ↔ Given8 s p
   given-8 = (to, back)

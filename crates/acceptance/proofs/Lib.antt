@@ -5,4 +5,7 @@ pub mod Pairs
 pub mod Numbers
 pub mod Reaching
 pub mod Meets
+pub mod Earliest
+pub mod InTurn
+pub mod Cases
 pub mod Givens

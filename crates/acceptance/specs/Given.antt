@@ -61,6 +61,7 @@ pub record Given2 (s : List ℕ) (p : ℕ) : Type 0 where
   pub other : isDue due (le16 s (p + kindAt)) (le32 s p) ≡ false
 
 -- 3 to 7, n at p: the record at off is due and whole, and of its fields' tests the first that fails has number n, at byte k of the record
+-- (Faults.antt says of each of these numbers which field it is and what its bytes hold)
 pub record GivenField (n : ℕ) (s : List ℕ) (p : ℕ) : Type 0 where
   pub due : Due
   pub off : ℕ
