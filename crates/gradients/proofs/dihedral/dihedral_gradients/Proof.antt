@@ -1,4 +1,5 @@
 -- `gradients::dihedral::dihedral_gradients` meets its contract. The test of the areas chooses the definition's case. Assumes nothing.
+use mathlib.Core.Path.{refl}
 use borrow.Author.Needs.{needs}
 use Rattle.gradients.specs.Dihedral.{dihedralGradients}
 use Rattle.gradients.proofs.dihedral.dihedral_gradients.Statement.{statement}
@@ -12,7 +13,7 @@ no-gradients-requires c κs = search needs
 
 returns : tie.Need-returns
 unfolding dihedralGradients
-returns c = rw (← (c .before .before .before .before .fold-of .ensures), c .before .if1 .taken) (cc)
+returns c = rw (← (c .before .before .before .before .fold-of .ensures), c .before .if1 .taken, c .no-gradients .ensures) refl
 
 bent-requires : tie.Need-bent-requires
 bent-requires c κs = search needs
