@@ -1,4 +1,5 @@
 -- Laws of the clash test. Assumes nothing.
+pub mod Alone
 pub mod Places
 pub mod Marking
 pub mod Turns

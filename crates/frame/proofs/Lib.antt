@@ -1,3 +1,4 @@
 -- Laws of whole frames. Assumes nothing.
+pub mod Accepts
 pub mod Scans
 pub mod Answered

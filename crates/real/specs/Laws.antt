@@ -6,7 +6,7 @@ use mathlib.Core.Bool.{Bool, true, false, cond}
 use native.Mathlib.Nat.{zero-mul}
 use native.Mathlib.Omega.{arith}
 use borrow.Author.Tests.{le-ltb, ltb-true, lt-ltb, ne-eqb}
-use lib.Ieee.{Float, nan, inf, fin, isNan, neg, add, sub, mul, div, rem, lt, le, ofBits, up, down}
+use lib.Ieee.{Float, nan, inf, fin, isNan, neg, add, sub, mul, div, rem, lt, le, eq, ofBits, up, down}
 use Rattle.loops.specs.Loops.{false-not-true}
 use Rattle.root.specs.Root.{rootOf}
 use Rattle.real.specs.Float.{_⊖_, _⊘_, f0, f1}
@@ -103,9 +103,15 @@ not-above-nan nan = refl
 not-above-nan (inf s) = refl
 not-above-nan (fin s m e) = refl
 
+-- a NaN is not drawn to the lower bound, whatever that is
+past-lower : (lower upper : Float) → clamp nan lower upper ≡ cond (lt upper nan) upper nan
+unfolding clamp lt le eq
+past-lower nan upper = refl
+past-lower (inf s) upper = refl
+past-lower (fin s m e) upper = refl
+
 pub clamp-nan : (lower upper : Float) → clamp nan lower upper ≡ nan
-unfolding clamp lt
-clamp-nan lower upper = rw (not-above-nan upper) refl
+clamp-nan lower upper = past-lower lower upper ∙ rw (not-above-nan upper) refl
 
 module _ (x lower upper : Float) where
   pub clamp-inside : lt x lower ≡ false → lt upper x ≡ false → clamp x lower upper ≡ x

@@ -142,4 +142,5 @@ unfolding signum isNan toBits
 by-sign-bit nan h n = absurd (false-not-true (sym n))
 by-sign-bit (inf true) h n = refl
 by-sign-bit (inf false) h n = refl
-by-sign-bit (fin s m e) h n = rw (sign-bit s m e h) refl
+by-sign-bit (fin s zero e) h n = rw (sign-bit s zero e h) refl
+by-sign-bit (fin s (suc m) e) h n = rw (sign-bit s (suc m) e h) refl

@@ -6,7 +6,7 @@ use mathlib.Core.List.{List, [], _∷_, _++_}
 use native.Mathlib.Omega.{arith}
 use borrow.Author.Tests.{eq-eqb, ne-eqb}
 use Rattle.records.specs.declared.Answer.{Answer}
-use Rattle.records.specs.Answers.{Refusal, numberOf, Test, notWhole, notDue, tooMany, badCode, notFinite, disordered, colourFalls, extraBytes, clash, refused, accepted, firstOf, from, firstFrom, Passed, _orElse_}
+use Rattle.records.specs.Answers.{Refusal, numberOf, Test, _then_, notWhole, notDue, tooMany, badCode, notFinite, disordered, colourFalls, extraBytes, clash, refused, accepted, firstOf, from, firstFrom, Passed, _orElse_}
 
 abbrev pub Zero : Answer → Type 0
 Zero a = a .number ≡ 0
@@ -58,6 +58,10 @@ from-append off (t ∷ ts) us = ap (record { fails = t .fails; refusal = t .refu
 
 pub first-from-append : (off : ℕ) (ts us : List Test) → firstFrom off (ts ++ us) ≡ (firstFrom off ts orElse firstFrom off us)
 first-from-append off ts us = ap firstOf (from-append off ts us) ∙ first-append (from off ts) (from off us)
+
+-- the answers of two lists of tests, the first in front
+pub joined : {p q r : Answer} (off : ℕ) (ts us : List Test) → p ≡ firstFrom off ts → q ≡ firstFrom off us → r ≡ p orElse q → r ≡ firstFrom off (ts then us)
+joined off ts us ep eq er = rw (er, ep, eq) (sym (first-from-append off ts us))
 
 -- ---- accepted exactly where all pass
 

@@ -203,18 +203,19 @@ pub solve-row-alike : (vel : Holds) (b : List ℕ) → Alike (solveRow vel b) b
 unfolding solveRow
 solve-row-alike vel b = solved-alike _ b
 
-pub lose-alike : (x : Vec3) (p : List ℕ) → Alike (lose x p) p
-unfolding lose putVec3
-lose-alike x p = record { size = length-putVec3 p at.pointVelocity v; start = λ k h. below k h }
+moved-alike : (v : Vec3) (p : List ℕ) → Alike (putVec3 p at.pointVelocity v) p
+unfolding putVec3
+moved-alike v p = record { size = length-putVec3 p at.pointVelocity v; start = λ k h. below k h }
   where
-    v : Vec3
-    v = sub (velocity p) x
-
     below : (k : ℕ) → k < 6 → getD (putVec3 p at.pointVelocity v) k 0 ≡ getD p k 0
     below k h =
         sets-below (f32Bytes (v .z)) (putF32 (putF32 p 18 (v .x)) 22 (v .y)) 26 k (omega arith)
         ∙ sets-below (f32Bytes (v .y)) (putF32 p 18 (v .x)) 22 k (omega arith)
         ∙ sets-below (f32Bytes (v .x)) p 18 k (omega arith)
+
+pub lose-alike : (x : Vec3) (p : List ℕ) → Alike (lose x p) p
+unfolding lose
+lose-alike x p = moved-alike _ p
 
 alter-same : (h : List ℕ → List ℕ) → ((p : List ℕ) → Alike (h p) p) → (ps : Points) (i : ℕ) → Same (alter ps i h) ps
 unfolding Same

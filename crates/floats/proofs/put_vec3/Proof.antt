@@ -1,8 +1,17 @@
 -- `floats::put_vec3` meets its contract. Its calls are the definition's. Assumes nothing.
+use Prim.Native.Nat.{ℕ, _+_}
+use mathlib.Core.Path.{_≡_, refl}
+use mathlib.Core.List.{List}
 use borrow.Author.Needs.{needs}
-use Rattle.floats.specs.Fields.{putVec3}
+use Rattle.vector.specs.declared.Vec3.{Vec3}
+use Rattle.floats.specs.Fields.{putF32, putVec3}
 use Rattle.floats.proofs.put_vec3.Statement.{statement}
 use Rattle.floats.proofs.put_vec3.Tie as tie
+
+in-turn : {b1 b2 b3 : List ℕ} (b : List ℕ) (k : ℕ) (v : Vec3) → b1 ≡ putF32 b k (v .x) → b2 ≡ putF32 b1 (k + 4) (v .y) → b3 ≡ putF32 b2 (k + 8) (v .z)
+    → b3 ≡ putVec3 b k v
+unfolding putVec3
+in-turn b k v e1 e2 e3 = rw (e3, e2, e1) refl
 
 put-f32-requires : tie.Need-put-f32-requires
 put-f32-requires c κs = search needs
@@ -23,8 +32,12 @@ same-length : tie.Need-same-length
 same-length c = search needs
 
 returns : tie.Need-returns
-unfolding putVec3
-returns c = cc
+returns c =
+    let d = c .before .before in
+    let e = d .before .before .before .before in
+    let f = e .before .before .before .before in
+    let a = f .before .before .before .args in
+    in-turn _ (a .k) (a .v) (f .put-f32 .ensures) (e .put-f322 .ensures) (d .put-f323 .ensures)
 
 pub put-vec3-spec : {M : Type 1} → statement M
 put-vec3-spec =

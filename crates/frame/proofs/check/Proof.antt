@@ -1,5 +1,6 @@
 -- `frame::check` meets its contract. Assumes nothing.
 use native.Mathlib.Omega.{arith}
+use denote.Ref.{now}
 use Rattle.records.proofs.Firsts.{passed-of}
 use Rattle.frame.proofs.Answered.{head-long, few-points, head-passed, check-head, check-points, check-rows, check-last}
 use borrow.Author.Needs.{needs}
@@ -10,7 +11,7 @@ record-test-requires : tie.Need-record-test-requires
 record-test-requires c κs = search needs
 
 returns : tie.Need-returns
-returns c = check-head _ _ (c .before .before .record-test .ensures) (c .if1 .taken)
+returns c = check-head (now (c .before .before .before .before .args .frame)) _ (c .before .before .record-test .ensures) (c .if1 .taken)
 
 get-u32-requires : tie.Need-get-u32-requires
 get-u32-requires c κs = omega (arith, head-long _ (head-passed _ _ (c .before .before .record-test .ensures) (c .if1 .left)))

@@ -1,6 +1,9 @@
 -- `records::head_fields` meets its contract. Assumes nothing.
-use Rattle.records.specs.Fields.{headFields}
-use Rattle.records.proofs.Firsts.{first-from-append}
+use denote.Ref.{now}
+use Rattle.records.specs.Layout.{headPoints, headRows, headMode, headResweeps, headWarm}
+use Rattle.records.specs.Answers.{_then_}
+use Rattle.records.specs.Fields.{limit16, limit32, code, finite, run, headFields}
+use Rattle.records.proofs.Firsts.{joined}
 use borrow.Author.Needs.{needs}
 use Rattle.records.proofs.head_fields.Statement.{statement}
 use Rattle.records.proofs.head_fields.Tie as tie
@@ -34,7 +37,17 @@ first-requires-4 c κs = search needs
 
 returns : tie.Need-returns
 unfolding headFields
-returns c = simp first-from-append (cc)
+returns c =
+    let d = c .before .before .before .before in
+    let e = d .before .before .before .before in
+    let b = now (e .before .before .args .b) in
+    let off = e .before .before .args .off in
+    joined off (limit32 b headPoints 4096 then limit32 b headRows 4096 then limit16 b headResweeps 64) (code b headMode 3 then run (finite b) headWarm 2)
+    (joined off (limit32 b headPoints 4096) (limit32 b headRows 4096 then limit16 b headResweeps 64) (e .limit32 .ensures)
+    (joined off (limit32 b headRows 4096) (limit16 b headResweeps 64) (d .before .before .before .limit322 .ensures) (d .before .before .limit16 .ensures) (d .before .first .ensures))
+    (d .first2 .ensures))
+    (joined off (code b headMode 3) (run (finite b) headWarm 2) (c .before .before .before .code .ensures) (c .before .before .finite-run .ensures) (c .before .first3 .ensures))
+    (c .first4 .ensures)
 
 pub head-fields-spec : {M : Type 1} → statement M
 head-fields-spec =

@@ -9,7 +9,7 @@ finite-run-requires c κs = search needs
 
 returns : tie.Need-returns
 unfolding pointFields
-returns c = cc
+returns c = c .finite-run .ensures
 
 pub point-fields-spec : {M : Type 1} → statement M
 point-fields-spec = tie.close (tie.spec finite-run-requires returns)

@@ -1,5 +1,6 @@
 -- `scalar::warmstart` meets its contract. Its calls are the definition's. Assumes nothing.
 use borrow.Author.Needs.{needs}
+use mathlib.Core.Path.{refl}
 use Rattle.scalar.specs.Row.{warmstart}
 use Rattle.scalar.proofs.warmstart.Statement.{statement}
 use Rattle.scalar.proofs.warmstart.Tie as tie
@@ -12,7 +13,12 @@ losses-requires c κs = search needs
 
 returns : tie.Need-returns
 unfolding warmstart
-returns c = cc
+returns c =
+    rw (
+      c .losses .ensures,
+      c .before .with-impulse .ensures,
+    )
+    refl
 
 pub warmstart-spec : {M : Type 1} → statement M
 warmstart-spec = tie.close (tie.spec with-impulse-requires losses-requires returns)

@@ -1,5 +1,6 @@
 -- `cell::update::posed` meets its contract. Its calls are the definition's. Assumes nothing.
 use borrow.Author.Needs.{needs}
+use mathlib.Core.Path.{refl}
 use Rattle.cell.specs.Cell.{posed}
 use Rattle.cell.proofs.update.posed.Statement.{statement}
 use Rattle.cell.proofs.update.posed.Tie as tie
@@ -21,7 +22,15 @@ capped-strain-requires c κs = search needs
 
 returns : tie.Need-returns
 unfolding posed
-returns c = cc
+returns c =
+    rw (
+      c .capped-strain .ensures,
+      c .before .before .strain-of .ensures,
+      c .before .before .before .is-inverted .ensures,
+      c .before .before .before .before .to-matrix .ensures,
+      c .before .before .before .before .before .extract-rotation .ensures,
+    )
+    refl
 
 pub posed-spec : {M : Type 1} → statement M
 posed-spec =

@@ -1,5 +1,6 @@
 -- `corotational::volumetric::volumetric_gradient` meets its contract. Its calls are the definition's. Assumes nothing.
 use borrow.Author.Needs.{needs}
+use mathlib.Core.Path.{refl}
 use Rattle.corotational.specs.Corotational.{volumetricGradient}
 use Rattle.corotational.proofs.volumetric.volumetric_gradient.Statement.{statement}
 use Rattle.corotational.proofs.volumetric.volumetric_gradient.Tie as tie
@@ -27,7 +28,17 @@ sub-requires-3 c κs = search needs
 
 returns : tie.Need-returns
 unfolding volumetricGradient
-returns c = cc
+returns c =
+    rw (
+      c .sub3 .ensures,
+      c .before .sub2 .ensures,
+      c .before .before .sub .ensures,
+      c .before .before .before .zero-vector .ensures,
+      c .before .before .before .before .before .before .before .mul-mat .ensures,
+      c .before .before .before .before .before .before .before .before .transpose .ensures,
+      c .before .before .before .before .before .before .before .before .before .cofactor .ensures,
+    )
+    refl
 
 pub volumetric-gradient-spec : {M : Type 1} → statement M
 volumetric-gradient-spec =

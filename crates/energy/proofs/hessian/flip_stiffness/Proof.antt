@@ -9,7 +9,7 @@ max-requires c κs = search needs
 
 returns : tie.Need-returns
 unfolding flipStiffness
-returns c = cc
+returns c = c .max .ensures
 
 pub flip-stiffness-spec : {M : Type 1} → statement M
 flip-stiffness-spec = tie.close (tie.spec max-requires returns)

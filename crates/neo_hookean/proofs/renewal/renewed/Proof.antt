@@ -1,5 +1,6 @@
 -- `neo_hookean::renewal::renewed` meets its contract. Its calls are the definition's. Assumes nothing.
 use borrow.Author.Needs.{needs}
+use mathlib.Core.Path.{refl}
 use Rattle.neo_hookean.specs.NeoHookean.{renewed}
 use Rattle.neo_hookean.proofs.renewal.renewed.Statement.{statement}
 use Rattle.neo_hookean.proofs.renewal.renewed.Tie as tie
@@ -15,7 +16,13 @@ try-inverse-requires c κs = search needs
 
 returns : tie.Need-returns
 unfolding renewed
-returns c = cc
+returns c =
+    rw (
+      c .before .before .try-inverse .ensures,
+      c .before .before .before .before .block .ensures,
+      c .before .before .before .before .before .before .stiffness-matrix .ensures,
+    )
+    refl
 
 pub renewed-spec : {M : Type 1} → statement M
 renewed-spec =

@@ -1,5 +1,6 @@
 -- `neo_hookean::renewal::stiffness_matrix` meets its contract. Its calls are the definition's. Assumes nothing.
 use borrow.Author.Needs.{needs}
+use mathlib.Core.Path.{refl}
 use Rattle.neo_hookean.specs.NeoHookean.{stiffnessMatrix}
 use Rattle.neo_hookean.proofs.renewal.stiffness_matrix.Statement.{statement}
 use Rattle.neo_hookean.proofs.renewal.stiffness_matrix.Tie as tie
@@ -21,7 +22,15 @@ scale36-requires-2 c κs = search needs
 
 returns : tie.Need-returns
 unfolding stiffnessMatrix
-returns c = cc
+returns c =
+    rw (
+      c .scale362 .ensures,
+      c .before .before .add36 .ensures,
+      c .before .before .before .before .before .from-diagonal .ensures,
+      c .before .before .before .before .before .before .before .scale36 .ensures,
+      c .before .before .before .before .before .before .before .before .before .hessian .ensures,
+    )
+    refl
 
 pub stiffness-matrix-spec : {M : Type 1} → statement M
 stiffness-matrix-spec =

@@ -1,8 +1,17 @@
 -- `vector::matrix::mul_vec` meets its contract. Its calls are the definition's. Assumes nothing.
+use mathlib.Core.Path.{_≡_, refl}
 use borrow.Author.Needs.{needs}
+use Rattle.vector.specs.declared.Vec3.{Vec3}
+use Rattle.vector.specs.declared.Mat3.{Mat3}
+use Rattle.vector.specs.Vector.{add, scale}
 use Rattle.vector.specs.Matrix.{mulVec}
 use Rattle.vector.proofs.matrix.mul_vec.Statement.{statement}
 use Rattle.vector.proofs.matrix.mul_vec.Tie as tie
+
+called : {a b s d r : Vec3} (m : Mat3) (v : Vec3) → a ≡ scale (m .x) (v .x) → b ≡ scale (m .y) (v .y) → s ≡ add a b → d ≡ scale (m .z) (v .z) → r ≡ add s d
+    → r ≡ mulVec m v
+unfolding mulVec
+called m v ea eb es ed er = rw (er, es, ea, eb, ed) refl
 
 scale-requires : tie.Need-scale-requires
 scale-requires c κs = search needs
@@ -20,8 +29,10 @@ add-requires-2 : tie.Need-add-requires-2
 add-requires-2 c κs = search needs
 
 returns : tie.Need-returns
-unfolding mulVec
-returns c = cc
+returns c =
+    let d = c .before .before in
+    let a = d .before .before .before .args in
+    called (a .m) (a .v) (d .before .before .scale .ensures) (d .before .scale2 .ensures) (d .add .ensures) (c .before .scale3 .ensures) (c .add2 .ensures)
 
 pub mul-vec-spec : {M : Type 1} → statement M
 mul-vec-spec =

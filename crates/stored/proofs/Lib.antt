@@ -1,0 +1,2 @@
+-- Laws of the run. Assumes nothing.
+pub mod Moves
