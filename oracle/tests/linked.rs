@@ -2,8 +2,10 @@
 #![cfg(feature = "rattle")]
 
 use oracle::answers::FUNCTIONS;
+use oracle::frames::accepted;
+use oracle::layout::ROWS;
 use oracle::random::Random;
-use oracle::rattle::linked;
+use oracle::rattle::{all_refuse, linked};
 
 #[test]
 fn linked_functions_agree() {
@@ -18,6 +20,35 @@ fn linked_functions_agree() {
                 "{} {number}",
                 function.name
             );
+        }
+    }
+}
+
+/// A record alone is taken. One byte less or more, another length or a kind that no row has, and it is refused and left alone.
+#[test]
+fn only_a_rows_record_is_taken() {
+    let random = &mut Random::new(1, "records alone");
+    for record in ROWS {
+        let frame = accepted(random, 0, &[record]);
+        let bytes = &frame.bytes[frame.records[1].0..];
+        assert!(!all_refuse(&mut bytes.to_vec()));
+        let kind = |kind: u16| [&bytes[..4], &kind.to_le_bytes(), &bytes[6..]].concat();
+        let length = |length: u32| [&length.to_le_bytes(), &bytes[4..]].concat();
+        let mut others: Vec<_> = [0, 1, 2, 6, 259, 65535].map(kind).into();
+        others.extend([0, record.length - 1, record.length + 1, u32::MAX].map(length));
+        others.extend((0..bytes.len()).map(|end| bytes[..end].to_vec()));
+        others.push([bytes, &[0]].concat());
+        // Whole by its length, and too short for its kind.
+        others.push(
+            [
+                &(record.length - 1).to_le_bytes(),
+                &bytes[4..bytes.len() - 1],
+            ]
+            .concat(),
+        );
+        for other in others {
+            let mut after = other.clone();
+            assert!(all_refuse(&mut after) && after == other);
         }
     }
 }

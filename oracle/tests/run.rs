@@ -3,7 +3,7 @@
 use oracle::branches::run_taken;
 use oracle::frames::{Frame, Sizes, exchanged_overflow, relisting, runs};
 use oracle::inputs::worked_distance;
-use oracle::layout::{HEAD, OVERFLOW, POINT, Record, SCALAR, START};
+use oracle::layout::{HEAD, OVERFLOW, POINT, SCALAR, START};
 use oracle::random::Random;
 use oracle::rows::{Points, ScalarRow};
 use oracle::run::run;
@@ -65,17 +65,6 @@ fn worked_distances() {
         assert_eq!(float(&after, 1, "velocity", 0), impulse);
         assert_eq!(float(&after, 2, "velocity", 0), -impulse);
     }
-}
-
-/// The words of a record.
-fn words(frame: &Frame, (start, record): (usize, &'static Record)) -> Vec<u32> {
-    let part = |part: oracle::layout::Part| {
-        let width = part.field.holds.width();
-        let at = start + part.offset;
-        let bytes = frame.bytes[at..at + width].iter().rev();
-        bytes.fold(0, |word, &byte| word << 8 | u32::from(byte))
-    };
-    record.parts().map(part).collect()
 }
 
 /// The phases that the table of answers has, one after another: what `solve_color_constraint` does in one call.
@@ -173,9 +162,10 @@ fn relistings_end_alike() {
         let first = frame.rows().start;
         let points = |of: &Frame| of.records.get(first).map_or(of.bytes.len(), |row| row.0);
         one.bytes[..points(&one)] == two.bytes[..points(&two)]
-            && order.iter().enumerate().all(|(new, old)| {
-                words(&one, one.records[first + old]) == words(&two, two.records[first + new])
-            })
+            && order
+                .iter()
+                .enumerate()
+                .all(|(new, old)| one.words(first + old) == two.words(first + new))
     };
     for _ in 0..1000 {
         let (_, frame) = runs(random, SMALL);

@@ -18,6 +18,7 @@ use Rattle.scalar.specs.Row as s
 use Rattle.scalar.specs.declared.SoftScalarConstraint.{SoftScalarConstraint}
 use Rattle.scalar.specs.declared.Solved as scalars
 use Rattle.cell.specs.Cell as cell
+use Rattle.cell.specs.declared.Impulses.{Impulses}
 use Rattle.cell.specs.declared.Solved.{Solved}
 use Rattle.corotational.specs.Row as c
 use Rattle.neo_hookean.specs.NeoHookean.{isFresh}
@@ -105,6 +106,15 @@ module _ {b x : List ℕ} (same : x ≡ b) {kind : ℕ} (k : kind ≡ le16 b 4) 
       unfolding updateRow updateOf strainedOf putConstraint
       renewed-5 {m} t d e = renewed-is least held b found tested t d (e ∙ ap (λ (y : List ℕ). parts.putStrains u least (parts.putAnew m (putPose (u .pose) y))) same) ∙ ap updated (is-5 h g)
 
+  -- what is put and what is lost, of a row that the code computed and of the rule's
+  of-scalar : {d q : scalars.Solved} {ys after : List ℕ} {loss : Four} → d ≡ q → ys ≡ putF32 x at.scalarImpulse (d .row .response .impulse)
+      → (putF32 b at.scalarImpulse (q .row .response .impulse) ≡ after) × (q .loss ≡ loss) → (ys ≡ after) × (d .loss ≡ loss)
+  of-scalar d e w = (e ∙ (λ j. putF32 (same j) at.scalarImpulse (d j .row .response .impulse)) ∙ w .0, ap (λ (y : scalars.Solved). y .loss) d ∙ w .1)
+
+  of-elastic : (put : Impulses → List ℕ → List ℕ) {d q : Solved} {ys after : List ℕ} {loss : Four} → d ≡ q → ys ≡ put (d .impulses) x
+      → (put (q .impulses) b ≡ after) × (q .loss ≡ loss) → (ys ≡ after) × (d .loss ≡ loss)
+  of-elastic put d e w = (e ∙ (λ j. put (d j .impulses) (same j)) ∙ w .0, ap (λ (y : Solved). y .loss) d ∙ w .1)
+
   module _ (coeff : Float) where
     warmed : (q : Constraint) → q ≡ constraintOf b → (warmConstraint (warmstartOf q coeff .constraint) b ≡ warmRow coeff b) × (warmstartOf q coeff .loss ≡ warmLoss coeff b)
     unfolding warmRow warmLoss
@@ -113,23 +123,17 @@ module _ {b x : List ℕ} (same : x ≡ b) {kind : ℕ} (k : kind ≡ le16 b 4) 
     pub warm-3 : kind ≡ 3 → {d : scalars.Solved} {ys : List ℕ} → d ≡ s.warmstart (scalarOf b) coeff → ys ≡ putF32 x at.scalarImpulse (d .row .response .impulse)
         → (ys ≡ warmRow coeff b) × (d .loss ≡ warmLoss coeff b)
     unfolding warmstartOf warmConstraint
-    warm-3 h d e =
-        let w = warmed (scalar (scalarOf b)) (is-3 h) in
-        (e ∙ (λ j. putF32 (same j) at.scalarImpulse (d j .row .response .impulse)) ∙ w .0, ap (λ (y : scalars.Solved). y .loss) d ∙ w .1)
+    warm-3 h d e = of-scalar d e (warmed (scalar (scalarOf b)) (is-3 h))
 
     pub warm-4 : (kind ≡ 3 → ⊥) → kind ≡ 4 → {d : Solved} {ys : List ℕ} → d ≡ c.warmstart (corotationalOf b) coeff → ys ≡ putImpulses (d .impulses) x
         → (ys ≡ warmRow coeff b) × (d .loss ≡ warmLoss coeff b)
     unfolding warmstartOf warmConstraint
-    warm-4 h g d e =
-        let w = warmed (corotational (corotationalOf b)) (is-4 h g) in
-        (e ∙ (λ j. putImpulses (d j .impulses) (same j)) ∙ w .0, ap (λ (y : Solved). y .loss) d ∙ w .1)
+    warm-4 h g d e = of-elastic putImpulses d e (warmed (corotational (corotationalOf b)) (is-4 h g))
 
     pub warm-5 : (kind ≡ 3 → ⊥) → (kind ≡ 4 → ⊥) → {d : Solved} {ys : List ℕ} → d ≡ n.warmstart (neoHookeanOf b) coeff → ys ≡ putImpulses (d .impulses) x
         → (ys ≡ warmRow coeff b) × (d .loss ≡ warmLoss coeff b)
     unfolding warmstartOf warmConstraint
-    warm-5 h g d e =
-        let w = warmed (neoHookean (neoHookeanOf b)) (is-5 h g) in
-        (e ∙ (λ j. putImpulses (d j .impulses) (same j)) ∙ w .0, ap (λ (y : Solved). y .loss) d ∙ w .1)
+    warm-5 h g d e = of-elastic putImpulses d e (warmed (neoHookean (neoHookeanOf b)) (is-5 h g))
 
   module _ (vel : Holds) where
     solved : (q : Constraint) → q ≡ constraintOf b → (solveConstraint (solveOf q vel .constraint) b ≡ solveRow vel b) × (solveOf q vel .loss ≡ solveLoss vel b)
@@ -139,20 +143,14 @@ module _ {b x : List ℕ} (same : x ≡ b) {kind : ℕ} (k : kind ≡ le16 b 4) 
     pub solve-3 : kind ≡ 3 → {d : scalars.Solved} {ys : List ℕ} → d ≡ s.solve (scalarOf b) vel → ys ≡ putF32 x at.scalarImpulse (d .row .response .impulse)
         → (ys ≡ solveRow vel b) × (d .loss ≡ solveLoss vel b)
     unfolding solveOf solveConstraint
-    solve-3 h d e =
-        let w = solved (scalar (scalarOf b)) (is-3 h) in
-        (e ∙ (λ j. putF32 (same j) at.scalarImpulse (d j .row .response .impulse)) ∙ w .0, ap (λ (y : scalars.Solved). y .loss) d ∙ w .1)
+    solve-3 h d e = of-scalar d e (solved (scalar (scalarOf b)) (is-3 h))
 
     pub solve-4 : (kind ≡ 3 → ⊥) → kind ≡ 4 → {d : Solved} {ys : List ℕ} → d ≡ c.solve (corotationalOf b) vel → ys ≡ putImpulses (d .impulses) x
         → (ys ≡ solveRow vel b) × (d .loss ≡ solveLoss vel b)
     unfolding solveOf solveConstraint
-    solve-4 h g d e =
-        let w = solved (corotational (corotationalOf b)) (is-4 h g) in
-        (e ∙ (λ j. putImpulses (d j .impulses) (same j)) ∙ w .0, ap (λ (y : Solved). y .loss) d ∙ w .1)
+    solve-4 h g d e = of-elastic putImpulses d e (solved (corotational (corotationalOf b)) (is-4 h g))
 
     pub solve-5 : (kind ≡ 3 → ⊥) → (kind ≡ 4 → ⊥) → {d : Solved} {ys : List ℕ} → d ≡ n.solve (neoHookeanOf b) vel → ys ≡ putFloats 6 x at.elasticStrainImpulse (d .impulses .strain)
         → (ys ≡ solveRow vel b) × (d .loss ≡ solveLoss vel b)
     unfolding solveOf solveConstraint
-    solve-5 h g d e =
-        let w = solved (neoHookean (neoHookeanOf b)) (is-5 h g) in
-        (e ∙ (λ j. putFloats 6 (same j) at.elasticStrainImpulse (d j .impulses .strain)) ∙ w .0, ap (λ (y : Solved). y .loss) d ∙ w .1)
+    solve-5 h g d e = of-elastic (λ l y. putFloats 6 y at.elasticStrainImpulse (l .strain)) d e (solved (neoHookean (neoHookeanOf b)) (is-5 h g))

@@ -173,57 +173,49 @@ fn rotations(random: &mut Random) {
     }
 }
 
-/// The rows of one kind, ready for Rattle, for the oracle called alike, and for the oracle in place.
-fn all_ready<R: Linked, B, C>(
+/// The rows of one kind, ready for Rattle and for the oracle.
+fn both_ready<R: Linked, B: RowCalls>(
     rows: &[Typical<R>],
-    oracle: impl Fn(Points, R) -> (B, C),
+    oracle: impl Fn(Points, R) -> B,
     of: impl Fn(&Typical<R>) -> R,
-) -> (Vec<impl RowCalls>, Vec<B>, Vec<C>) {
+) -> (Vec<impl RowCalls>, Vec<B>) {
     let ours = rows.iter().map(|row| ready(row.points, of(row))).collect();
-    let (handed, in_place) = rows.iter().map(|row| oracle(row.points, of(row))).unzip();
-    (ours, handed, in_place)
+    let theirs = rows.iter().map(|row| oracle(row.points, of(row))).collect();
+    (ours, theirs)
 }
 
-fn print_three(name: &str, [rattle, handed, in_place]: [f64; 3]) {
-    let line = line(name, rattle, handed);
-    println!("{line}   in place {in_place:>7.1} ns");
-}
-
-/// Times the update: each call gathers the positions of the row's points and gives the row anew.
-fn race_update<R: Linked, B: RowCalls, C: RowCalls>(
+/// Times the update with peak and flag: each call gathers the positions of the row's points and alters a copy of the row.
+fn race_update<R: Linked, B: RowCalls>(
     name: &str,
     rows: &[Typical<R>],
-    oracle: impl Fn(Points, R) -> (B, C),
+    oracle: impl Fn(Points, R) -> B,
 ) {
-    let (ours, handed, in_place) = all_ready(rows, oracle, |row| row.row);
-    let times = shortest(
+    let (ours, theirs) = both_ready(rows, oracle, |row| row.row);
+    let [first, second] = shortest(
         rows.len(),
-        [
-            &mut || ours.iter().for_each(RowCalls::update),
-            &mut || handed.iter().for_each(RowCalls::update),
-            &mut || in_place.iter().for_each(RowCalls::update),
-        ],
+        [&mut || ours.iter().for_each(RowCalls::update), &mut || {
+            theirs.iter().for_each(RowCalls::update)
+        }],
     );
-    print_three(name, times);
+    println!("{}", line(name, first, second));
 }
 
 /// Times the solve after an update: each call gathers the velocities of the row's points, alters the row's impulses, and takes from
 /// the points what they lose.
-fn race_solve<R: Linked, B: RowCalls, C: RowCalls>(
+fn race_solve<R: Linked, B: RowCalls>(
     name: &str,
     rows: &[Typical<R>],
-    oracle: impl Fn(Points, R) -> (B, C),
+    oracle: impl Fn(Points, R) -> B,
 ) {
-    let (mut ours, mut handed, mut in_place) = all_ready(rows, oracle, |row| row.updated);
-    let times = shortest(
+    let (mut ours, mut theirs) = both_ready(rows, oracle, |row| row.updated);
+    let [first, second] = shortest(
         rows.len(),
         [
             &mut || ours.iter_mut().for_each(RowCalls::solve),
-            &mut || handed.iter_mut().for_each(RowCalls::solve),
-            &mut || in_place.iter_mut().for_each(RowCalls::solve),
+            &mut || theirs.iter_mut().for_each(RowCalls::solve),
         ],
     );
-    print_three(name, times);
+    println!("{}", line(name, first, second));
 }
 
 fn scalar_rows(random: &mut Random) {

@@ -35,8 +35,8 @@ const NEVER: &[(&str, &str, &str)] = &[
     (
         "neo_hookean, update",
         "d = -0",
-        ": needs a +0 and a -0 on one diagonal; 1 + x is never -0, and the Hessian's zeros have all one sign, but for a product that \
-         underflows between two turns",
+        ": never met; it needs a +0 and a -0 on one diagonal, and 1 + x is never -0, while the zeros of the Hessian's diagonal have one \
+         sign until products within a turn underflow",
     ),
 ];
 

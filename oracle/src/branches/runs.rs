@@ -3,7 +3,7 @@
 
 use super::Tally;
 use crate::answers::function;
-use crate::frames::{Frame, number_at};
+use crate::frames::Frame;
 use crate::layout::{HEAD, POINT, Record, SCALAR};
 use crate::rows::{Head, POINTS, Point, Points};
 use crate::support::vector::Vector;
@@ -135,15 +135,6 @@ fn named(place: usize, what: &str) -> String {
     format!("place {place} names {what}")
 }
 
-/// The words of a record.
-fn words(frame: &Frame, (start, record): (usize, &'static Record)) -> Vec<u32> {
-    let part = |part: crate::layout::Part| {
-        let at = start + part.offset;
-        number_at(&frame.bytes, at, part.field.holds.width())
-    };
-    record.parts().map(part).collect()
-}
-
 /// A row in a run.
 struct Row {
     record: &'static Record,
@@ -172,21 +163,18 @@ impl Row {
 
 /// The run of an accepted frame by the answers of the row functions, and the branches that it takes.
 pub fn run_taken(frame: &Frame) -> (Frame, Taken) {
-    let [n, r, mode, resweeps, warm, least] =
-        words(frame, frame.records[0]).try_into().expect("a head");
-    let points = &frame.records[1..=n as usize];
+    let [n, r, mode, resweeps, warm, least] = frame.words(0).try_into().expect("a head");
+    let numbers = 1..=n as usize;
     let mut run = Run {
         head: value_of(&[mode, warm, least]),
-        points: points.iter().map(|&p| value_of(&words(frame, p))).collect(),
+        points: numbers.map(|point| value_of(&frame.words(point))).collect(),
         taken: Taken::none(),
     };
-    let rows = frame.records[frame.rows()].iter();
-    let mut rows: Vec<_> = rows
-        .map(|&(start, record)| Row {
-            record,
-            words: words(frame, (start, record)),
-        })
-        .collect();
+    let of = |row: usize| Row {
+        record: frame.records[row].1,
+        words: frame.words(row),
+    };
+    let mut rows: Vec<_> = frame.rows().map(of).collect();
     rows.iter_mut().for_each(|row| run.main_step(row));
     for _ in 0..resweeps {
         rows.iter_mut().for_each(|row| run.resweep_step(row));

@@ -95,6 +95,15 @@ impl Frame {
         number_at(&self.bytes, at, width)
     }
 
+    /// The words of a record, one for each part of its fields.
+    pub fn words(&self, number: usize) -> Vec<u32> {
+        let (start, record) = self.records[number];
+        let parts = record.parts();
+        parts
+            .map(|part| number_at(&self.bytes, start + part.offset, part.field.holds.width()))
+            .collect()
+    }
+
     /// The numbers in `records` of the rows.
     pub fn rows(&self) -> std::ops::Range<usize> {
         let is_row = |placed: &Placed| placed.1.kind > POINT.kind;

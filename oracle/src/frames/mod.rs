@@ -35,7 +35,7 @@ pub fn each(seed: u64, count: u64, visit: &mut Visit) {
 }
 
 /// The number of two or four bytes at a place.
-pub(crate) fn number_at(bytes: &[u8], at: usize, width: usize) -> u32 {
+fn number_at(bytes: &[u8], at: usize, width: usize) -> u32 {
     let part = bytes[at..at + width].iter().rev();
     part.fold(0, |number, &byte| number << 8 | u32::from(byte))
 }
