@@ -1,4 +1,5 @@
-// What both elastic rows share: strains in six coordinates, the update of positions, rotation and strain, and what impulses take from each place.
+// What both elastic rows share: strains in six coordinates, the update of positions, rotation and strain, and what impulses take from each
+// place.
 pub mod solve; // velocities in the cell's frame, and what impulses take
 pub mod tensor; // strains in six coordinates and as tensors
 pub mod update; // the update of positions, rotation and strain

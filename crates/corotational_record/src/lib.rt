@@ -1,5 +1,5 @@
-// A corotational row read from its record in its parts, each when it is used, and what each phase assigns put back into the record. An update puts all of
-// `pos`: a position that is not fetched as it was read.
+// A corotational row read from its record in its parts, each when it is used, and what each phase assigns put back into the record. An
+// update puts all of `pos`: a position that is not fetched as it was read.
 ghost use mathlib.Core.Path.{_≡_};
 ghost use Prim.Native.Nat.{_≤_};
 ghost use lib.ListN.{length};

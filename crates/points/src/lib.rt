@@ -1,4 +1,5 @@
-// Points in a frame: fetching what the places of a row hold, and taking from them. The velocities are set apart for the time of the sweeps. This crate alone knows where a point lies.
+// Points in a frame: fetching what the places of a row hold, and taking from them. The velocities are set apart for the time of the sweeps.
+// This crate alone knows where a point lies.
 ghost use mathlib.Core.Path.{_≡_};
 ghost use Prim.Native.Nat.{ℕ, _+_, _*_, _≤_, _<_};
 ghost use lib.ListN.{length};

@@ -50,7 +50,7 @@ pub fn is_strained(b: &[u8]) -> bool
     bytes::get_u16(b, layout::ROW_STRAINED) == 1
 }
 
-// ---- the phases. The record stands at off and ends at e. It is taken as a part of the frame and read from there; what the phase assigns is put after that
+// ---- the phases. The record stands at off and ends at e. It is read as a part of the frame, and then what the phase assigns is put there
 
 pub fn update_row(s: &mut [u8], off: usize, e: usize, held: Holds, least: f32)
     requires { ⌜ Stands off e (now s) ⌝ }

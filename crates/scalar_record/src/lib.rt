@@ -1,5 +1,6 @@
-// A scalar row read from its record, its phases on the row as a struct, and what each phase assigns put back into the record. An update puts the rest
-// of `pos` and `grad` with them, as it was read: a position that is not fetched, a gradient that a distance row does not assign.
+// A scalar row read from its record, its phases on the row as a struct, and what each phase assigns put back into the record. An update
+// puts the rest of `pos` and `grad` with them, as it was read: a position that is not fetched, a gradient that a distance row does not
+// assign.
 ghost use mathlib.Core.Path.{_≡_};
 ghost use Prim.Native.Nat.{_≤_};
 ghost use lib.ListN.{length};
@@ -56,8 +57,8 @@ fn response_at(b: &[u8]) -> Response
     }
 }
 
-// The whole row. It stands three times, once for each phase: a function with one caller is compiled into it, and the fields that the phase does not use
-// are never read. One function for all three made scalar sheets take up to twice as long.
+// The whole row. It stands three times, once for each phase: a function with one caller is compiled into it, and the fields that the phase
+// does not use are never read. One function for all three made scalar sheets take up to twice as long.
 fn row_to_update(b: &[u8]) -> SoftScalarConstraint
     requires { ⌜ 182 ≤ length (now b) ⌝ }
     ensures { λ r. ⌜ r ≡ scalarOf (now (b .entry)) ⌝ }

@@ -12,7 +12,8 @@ ghost use Rattle.sweep.specs.Laid.{Calm, Standing, Stepped, stepOf, Resw
 use places::Ids;
 use records::layout;
 
-// What a sweep does with each row: an update and a warm start where they are on, and the solve. A resweep passes over the rows that are not strained, and has neither on.
+// What a sweep does with each row: an update and a warm start where they are on, and the solve. A resweep passes over the rows that are not
+// strained, and has neither on.
 pub struct Turn {
     pub resweep: bool,
     pub update: bool,
@@ -105,8 +106,8 @@ fn step(t: Turn, n: usize, off: usize, len: usize, s: &mut [u8], v: &mut [f32; 1
 
 // ---- the sweeps: n points, r rows
 
-// The bytes of the row at off, as a part of the frame. A scalar row's length is known by its kind, through a branch: so the place of the next row does not
-// wait until the length is read.
+// The bytes of the row at off, as a part of the frame. A scalar row's length is known by its kind, through a branch: so the place of the
+// next row does not wait until the length is read.
 fn row_at(s: &[u8], off: usize) -> &[u8]
     requires { ⌜ ((off + 6 ≤ length (now s)) × (off + recordLength (now s) off ≤ length (now s))) × (le16 (now s) (off + 4) ≡ 3 → recordLength (now s) off ≡ 182) ⌝ }
     ensures { λ r. ⌜ (now r ≡ recordAt (now (s .entry)) off) × (length (now r) ≡ recordLength (now (s .entry)) off) ⌝ }

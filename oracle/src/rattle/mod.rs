@@ -1,7 +1,7 @@
 //! The Rattle functions of the static libraries `arith_ffi` and `rows_ffi`, under the names of the table of answers.
 //!
-//! This is the one place that says how they are called: `rt_NAME`, structs by value as C lays them out, arrays by pointer with the
-//! answer's place last, a row's record by pointer and length. A function is added by its declaration and its line in the `RATTLE` of its file.
+//! This is the one place that says how they are called: `rt_NAME`, structs by value as C lays them out, arrays by pointer with the answer's
+//! place last, a row's record by pointer and length. A function is added by its declaration and its line in the `RATTLE` of its file.
 
 /// Functions of values under their names, as functions of words.
 macro_rules! rattle {
