@@ -1,5 +1,6 @@
 -- `cell_record::put_impulses` meets its contract. One put after another. Assumes nothing.
 use borrow.Author.Needs.{needs}
+use mathlib.Core.Path.{refl}
 use Rattle.stored.specs.Put.{putImpulses}
 use Rattle.cell_record.proofs.put_impulses.Statement.{statement}
 use Rattle.cell_record.proofs.put_impulses.Tie as tie
@@ -15,7 +16,7 @@ same-length c = search needs
 
 returns : tie.Need-returns
 unfolding putImpulses
-returns c = cc
+returns c = rw (c .before .before .put-f32 .ensures, c .before .before .before .before .before .before .put-floats6 .ensures) refl
 
 pub put-impulses-spec : {M : Type 1} → statement M
 put-impulses-spec = tie.close (tie.spec put-floats6-requires put-f32-requires same-length returns)
