@@ -1,0 +1,17 @@
+-- `scalar_record::put_impulse` meets its contract. One put. Assumes nothing.
+use borrow.Author.Needs.{needs}
+use mathlib.Core.Path.{refl}
+use Rattle.scalar_record.proofs.put_impulse.Statement.{statement}
+use Rattle.scalar_record.proofs.put_impulse.Tie as tie
+
+put-f32-requires : tie.Need-put-f32-requires
+put-f32-requires c κs = search needs
+
+same-length : tie.Need-same-length
+same-length c = search needs
+
+returns : tie.Need-returns
+returns c = rw (c .before .before .put-f32 .ensures) refl
+
+pub put-impulse-spec : {M : Type 1} → statement M
+put-impulse-spec = tie.close (tie.spec put-f32-requires same-length returns)
