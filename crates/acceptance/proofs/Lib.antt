@@ -9,3 +9,4 @@ pub mod Earliest
 pub mod InTurn
 pub mod Cases
 pub mod Givens
+pub mod Finites

@@ -5,6 +5,7 @@ ghost use lib.ListN.{length};
 ghost use Rattle.records.specs.Layout as at;
 ghost use Rattle.strain.specs.Matrix.{matVec};
 ghost use Rattle.cell.specs.Cell as cell;
+ghost use Rattle.floats.specs.Written.{AllWritten, Kept};
 ghost use Rattle.stored.specs.Read.{cellOf, poseOf, complianceOf, impulsesOf};
 ghost use Rattle.stored.specs.Put.{putFlag, putPose, putImpulses};
 ghost use Rattle.cell_record.specs.Anew.{posAnew, deformationAnew, posedAnew};
@@ -20,7 +21,7 @@ use vector::Mat3;
 
 pub fn put_strained(b: &mut [u8], strain: &[f32; 6], least: f32)
     requires { ⌜ 450 ≤ length (now b) ⌝ }
-    ensures { λ _. ⌜ now (b .exit) ≡ putFlag (now (b .entry)) at.rowStrained (cell.isStrained (now (strain .entry)) least) ⌝ }
+    ensures { λ _. ⌜ (now (b .exit) ≡ putFlag (now (b .entry)) at.rowStrained (cell.isStrained (now (strain .entry)) least)) × Kept (now (b .entry)) (now (b .exit)) ⌝ }
 {
     put_flag(
         b,
@@ -32,14 +33,14 @@ pub fn put_strained(b: &mut [u8], strain: &[f32; 6], least: f32)
 // ---- the pose: only what an update uses of the last one is read
 
 pub fn pos_anew(b: &[u8], held: Holds) -> Four
-    requires { ⌜ 450 ≤ length (now b) ⌝ }
+    requires { ⌜ (450 ≤ length (now b)) × AllWritten (now b) ⌝ }
     ensures { λ r. ⌜ r ≡ posAnew held (now (b .entry)) ⌝ }
 {
     places::refreshed(held, floats::four_at(b, layout::ROW_POS))
 }
 
 pub fn deformation_anew(b: &[u8], pos: Four) -> Mat3
-    requires { ⌜ 450 ≤ length (now b) ⌝ }
+    requires { ⌜ (450 ≤ length (now b)) × AllWritten (now b) ⌝ }
     ensures { λ r. ⌜ r ≡ deformationAnew pos (now (b .entry)) ⌝ }
 {
     let inv_rest = floats::mat3_at(b, layout::ELASTIC_INV_REST_MATRIX);
@@ -47,7 +48,7 @@ pub fn deformation_anew(b: &[u8], pos: Four) -> Mat3
 }
 
 pub fn posed_anew(b: &[u8], pos: Four, f: Mat3) -> Pose
-    requires { ⌜ 450 ≤ length (now b) ⌝ }
+    requires { ⌜ (450 ≤ length (now b)) × AllWritten (now b) ⌝ }
     ensures { λ r. ⌜ r ≡ posedAnew pos f (now (b .entry)) ⌝ }
 {
     let caps = floats::floats6_at(b, layout::ELASTIC_STRAIN_CAP);
@@ -56,7 +57,7 @@ pub fn posed_anew(b: &[u8], pos: Four, f: Mat3) -> Pose
 }
 
 pub fn pose_anew(b: &[u8], held: Holds) -> Pose
-    requires { ⌜ 450 ≤ length (now b) ⌝ }
+    requires { ⌜ (450 ≤ length (now b)) × AllWritten (now b) ⌝ }
     ensures { λ r. ⌜ r ≡ cell.updatePose (cellOf (now (b .entry))) (poseOf (now (b .entry))) held ⌝ }
 {
     let pos = pos_anew(b, held);
@@ -66,7 +67,7 @@ pub fn pose_anew(b: &[u8], held: Holds) -> Pose
 
 pub fn put_pose(b: &mut [u8], p: Pose)
     requires { ⌜ 450 ≤ length (now b) ⌝ }
-    ensures { λ _. ⌜ now (b .exit) ≡ putPose p (now (b .entry)) ⌝ }
+    ensures { λ _. ⌜ (now (b .exit) ≡ putPose p (now (b .entry))) × Kept (now (b .entry)) (now (b .exit)) ⌝ }
 {
     let strain = p.strain;
     put_flag(b, layout::ELASTIC_INVERTED, p.inverted);
@@ -79,27 +80,27 @@ pub fn put_pose(b: &mut [u8], p: Pose)
 // ---- the impulses
 
 pub fn impulses_of(b: &[u8]) -> Impulses
-    requires { ⌜ 450 ≤ length (now b) ⌝ }
+    requires { ⌜ (450 ≤ length (now b)) × AllWritten (now b) ⌝ }
     ensures { λ r. ⌜ r ≡ impulsesOf (now (b .entry)) ⌝ }
 {
     let strain = floats::floats6_at(b, layout::ELASTIC_STRAIN_IMPULSE);
-    let vol = bytes::get_f32(b, layout::ELASTIC_VOL_IMPULSE);
+    let vol = floats::f32_at(b, layout::ELASTIC_VOL_IMPULSE);
     Impulses { strain, vol }
 }
 
 pub fn put_impulses(b: &mut [u8], l: Impulses)
     requires { ⌜ 450 ≤ length (now b) ⌝ }
-    ensures { λ _. ⌜ now (b .exit) ≡ putImpulses l (now (b .entry)) ⌝ }
+    ensures { λ _. ⌜ (now (b .exit) ≡ putImpulses l (now (b .entry))) × Kept (now (b .entry)) (now (b .exit)) ⌝ }
 {
     let strain = l.strain;
     floats::put_floats6(b, layout::ELASTIC_STRAIN_IMPULSE, &strain);
-    bytes::put_f32(b, layout::ELASTIC_VOL_IMPULSE, l.vol);
+    floats::put_f32(b, layout::ELASTIC_VOL_IMPULSE, l.vol);
 }
 
 // ---- the block's inverse: it is read and multiplied in one function, which both kinds call, and so it is never copied
 
 fn compliance_of(b: &[u8]) -> Compliance
-    requires { ⌜ 450 ≤ length (now b) ⌝ }
+    requires { ⌜ (450 ≤ length (now b)) × AllWritten (now b) ⌝ }
     ensures { λ r. ⌜ r ≡ complianceOf (now (b .entry)) ⌝ }
 {
     let c0 = floats::floats6_at(b, layout::ELASTIC_INV_A);
@@ -113,7 +114,7 @@ fn compliance_of(b: &[u8]) -> Compliance
 }
 
 pub fn eased_at(b: &[u8], residual: &[f32; 6]) -> [f32; 6]
-    requires { ⌜ 450 ≤ length (now b) ⌝ }
+    requires { ⌜ (450 ≤ length (now b)) × AllWritten (now b) ⌝ }
     ensures { λ r. ⌜ r ≡ matVec (complianceOf (now (b .entry)) .«inv_a») (now (residual .entry)) ⌝ }
 {
     cell::solve::eased(compliance_of(b), residual)

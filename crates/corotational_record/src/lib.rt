@@ -6,22 +6,23 @@ ghost use lib.ListN.{length};
 ghost use Rattle.records.specs.Layout as at;
 ghost use Rattle.cell.specs.Cell as cell;
 ghost use Rattle.corotational.specs.Row as c;
+ghost use Rattle.floats.specs.Written.{AllWritten, Kept};
 ghost use Rattle.stored.specs.Read.{complianceOf, springsOf, volumeOf, corotationalOf};
 ghost use Rattle.stored.specs.Put.{putFlag, putPose, putVolume};
 ghost use Rattle.corotational_record.specs.Parts.{volumeAnew, strainStepAt};
-use bytes::get_f32;
-use bytes::put_f32;
 use cell::Compliance;
 use cell::Pose;
 use cell::Solved;
 use cell_record::impulses_of;
 use corotational::Springs;
 use corotational::Volume;
+use floats::f32_at;
 use floats::floats6_at;
 use floats::floats36_at;
 use floats::four_at;
 use floats::masses_at;
 use floats::mat3_at;
+use floats::put_f32;
 use places::Holds;
 use records::layout;
 use vector::Four;
@@ -30,7 +31,7 @@ use vector::Mat3;
 // ---- update
 
 fn springs_of(b: &[u8]) -> Springs
-    requires { ⌜ 618 ≤ length (now b) ⌝ }
+    requires { ⌜ (618 ≤ length (now b)) × AllWritten (now b) ⌝ }
     ensures { λ r. ⌜ r ≡ springsOf (now (b .entry)) ⌝ }
 {
     let erp_strain = floats6_at(b, layout::CORO_ERP_STRAIN);
@@ -38,15 +39,15 @@ fn springs_of(b: &[u8]) -> Springs
     Springs {
         erp_strain,
         cfm_strain,
-        erp_vol: get_f32(b, layout::CORO_ERP_VOL),
-        cfm_coeff_vol: get_f32(b, layout::CORO_CFM_COEFF_VOL),
-        vol_cap: get_f32(b, layout::CORO_VOL_CAP),
+        erp_vol: f32_at(b, layout::CORO_ERP_VOL),
+        cfm_coeff_vol: f32_at(b, layout::CORO_CFM_COEFF_VOL),
+        vol_cap: f32_at(b, layout::CORO_VOL_CAP),
         volumetric: bytes::get_u16(b, layout::ELASTIC_FOURTH) == 1,
     }
 }
 
 fn compliance_of(b: &[u8]) -> Compliance
-    requires { ⌜ 618 ≤ length (now b) ⌝ }
+    requires { ⌜ (618 ≤ length (now b)) × AllWritten (now b) ⌝ }
     ensures { λ r. ⌜ r ≡ complianceOf (now (b .entry)) ⌝ }
 {
     let inv_a = floats36_at(b, layout::ELASTIC_INV_A);
@@ -55,7 +56,7 @@ fn compliance_of(b: &[u8]) -> Compliance
 
 // With f the deformation gradient, and rot and `inverted` those of the same update.
 fn volume_anew(b: &[u8], rot: Mat3, inverted: bool, f: Mat3) -> Volume
-    requires { ⌜ 618 ≤ length (now b) ⌝ }
+    requires { ⌜ (618 ≤ length (now b)) × AllWritten (now b) ⌝ }
     ensures { λ r. ⌜ r ≡ volumeAnew rot inverted f (now (b .entry)) ⌝ }
 {
     let inv_rest = mat3_at(b, layout::ELASTIC_INV_REST_MATRIX);
@@ -73,7 +74,7 @@ pub struct Update {
 }
 
 pub fn updated(b: &[u8], held: Holds) -> Update
-    requires { ⌜ 618 ≤ length (now b) ⌝ }
+    requires { ⌜ (618 ≤ length (now b)) × AllWritten (now b) ⌝ }
     ensures { λ r. ⌜ (r .pose ≡ c.update (corotationalOf (now (b .entry))) held .pose) × (r .volume ≡ c.update (corotationalOf (now (b .entry))) held .volume) ⌝ }
 {
     let pos = cell_record::pos_anew(b, held);
@@ -85,7 +86,7 @@ pub fn updated(b: &[u8], held: Holds) -> Update
 
 fn put_volume(b: &mut [u8], v: Volume)
     requires { ⌜ 618 ≤ length (now b) ⌝ }
-    ensures { λ _. ⌜ now (b .exit) ≡ putVolume v (now (b .entry)) ⌝ }
+    ensures { λ _. ⌜ (now (b .exit) ≡ putVolume v (now (b .entry))) × Kept (now (b .entry)) (now (b .exit)) ⌝ }
 {
     let coupling = v.b;
     let z = v.z;
@@ -99,7 +100,7 @@ fn put_volume(b: &mut [u8], v: Volume)
 
 pub fn put_updated(b: &mut [u8], u: Update, least: f32)
     requires { ⌜ 618 ≤ length (now b) ⌝ }
-    ensures { λ _. ⌜ now (b .exit) ≡ putFlag (putVolume (u .volume) (putPose (u .pose) (now (b .entry)))) at.rowStrained (cell.isStrained (u .pose .strain) least) ⌝ }
+    ensures { λ _. ⌜ (now (b .exit) ≡ putFlag (putVolume (u .volume) (putPose (u .pose) (now (b .entry)))) at.rowStrained (cell.isStrained (u .pose .strain) least)) × Kept (now (b .entry)) (now (b .exit)) ⌝ }
 {
     let pose = u.pose;
     let strain = pose.strain;
@@ -111,7 +112,7 @@ pub fn put_updated(b: &mut [u8], u: Update, least: f32)
 // ---- warm start
 
 pub fn warmed(b: &[u8], coeff: f32) -> Solved
-    requires { ⌜ 618 ≤ length (now b) ⌝ }
+    requires { ⌜ (618 ≤ length (now b)) × AllWritten (now b) ⌝ }
     ensures { λ r. ⌜ r ≡ c.warmstart (corotationalOf (now (b .entry))) coeff ⌝ }
 {
     let rot = mat3_at(b, layout::ELASTIC_ROT_MAT);
@@ -125,24 +126,24 @@ pub fn warmed(b: &[u8], coeff: f32) -> Solved
 // ---- solve
 
 fn volume_of(b: &[u8]) -> Volume
-    requires { ⌜ 618 ≤ length (now b) ⌝ }
+    requires { ⌜ (618 ≤ length (now b)) × AllWritten (now b) ⌝ }
     ensures { λ r. ⌜ r ≡ volumeOf (now (b .entry)) ⌝ }
 {
     let coupling = floats6_at(b, layout::CORO_B);
     let z = floats6_at(b, layout::CORO_Z);
     Volume {
         grad_vol: four_at(b, layout::CORO_GRAD_VOL),
-        cfm_gain_vol: get_f32(b, layout::CORO_CFM_GAIN_VOL),
-        rhs_vol: get_f32(b, layout::CORO_RHS_VOL),
+        cfm_gain_vol: f32_at(b, layout::CORO_CFM_GAIN_VOL),
+        rhs_vol: f32_at(b, layout::CORO_RHS_VOL),
         b: coupling,
         z,
-        inv_s: get_f32(b, layout::CORO_INV_S),
+        inv_s: f32_at(b, layout::CORO_INV_S),
     }
 }
 
 // What the strain rows would take if there were no volumetric row.
 fn strain_step(b: &[u8], rot: Mat3, coeffs: Four, impulse: &[f32; 6], vel: Holds) -> [f32; 6]
-    requires { ⌜ 618 ≤ length (now b) ⌝ }
+    requires { ⌜ (618 ≤ length (now b)) × AllWritten (now b) ⌝ }
     ensures { λ r. ⌜ r ≡ strainStepAt rot coeffs (now (impulse .entry)) vel (now (b .entry)) ⌝ }
 {
     let strain = floats6_at(b, layout::ELASTIC_STRAIN);
@@ -154,7 +155,7 @@ fn strain_step(b: &[u8], rot: Mat3, coeffs: Four, impulse: &[f32; 6], vel: Holds
 }
 
 pub fn solved(b: &[u8], vel: Holds) -> Solved
-    requires { ⌜ 618 ≤ length (now b) ⌝ }
+    requires { ⌜ (618 ≤ length (now b)) × AllWritten (now b) ⌝ }
     ensures { λ r. ⌜ r ≡ c.solve (corotationalOf (now (b .entry))) vel ⌝ }
 {
     let rot = mat3_at(b, layout::ELASTIC_ROT_MAT);

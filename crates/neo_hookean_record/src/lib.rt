@@ -7,10 +7,10 @@ ghost use Rattle.records.specs.Layout as at;
 ghost use Rattle.neo_hookean.specs.NeoHookean.{isFresh};
 ghost use Rattle.neo_hookean.specs.Row as n;
 ghost use Rattle.floats.specs.Fields.{floatsAt, putFloats};
+ghost use Rattle.floats.specs.Written.{AllWritten, Kept};
 ghost use Rattle.stored.specs.Read.{materialOf, stiffnessOf, neoHookeanOf};
 ghost use Rattle.stored.specs.Put.{putPose};
 ghost use Rattle.neo_hookean_record.specs.Parts as spec;
-use bytes::get_f32;
 use cell::Impulses;
 use cell::Pose;
 use cell::Solved;
@@ -18,6 +18,7 @@ use cell::tensor::from_columns;
 use cell_record::impulses_of;
 use cell_record::put_pose;
 use energy::Energy;
+use floats::f32_at;
 use floats::floats6_at;
 use floats::four_at;
 use floats::masses_at;
@@ -35,31 +36,31 @@ use vector::Mat3;
 // ---- update
 
 fn energy_anew(b: &[u8], strain: &[f32; 6]) -> Energy
-    requires { ⌜ 678 ≤ length (now b) ⌝ }
+    requires { ⌜ (678 ≤ length (now b)) × AllWritten (now b) ⌝ }
     ensures { λ r. ⌜ r ≡ spec.energyAnew (now (strain .entry)) (now (b .entry)) ⌝ }
 {
-    let mu = get_f32(b, layout::NEO_MU);
-    let lambda = get_f32(b, layout::NEO_LAMBDA);
+    let mu = f32_at(b, layout::NEO_MU);
+    let lambda = f32_at(b, layout::NEO_LAMBDA);
     energy::hessian::gradient(mu, lambda, strain)
 }
 
 fn dt_grad_anew(b: &[u8], e: Energy) -> [f32; 6]
-    requires { ⌜ 678 ≤ length (now b) ⌝ }
+    requires { ⌜ (678 ≤ length (now b)) × AllWritten (now b) ⌝ }
     ensures { λ r. ⌜ r ≡ spec.dtGradAnew e (now (b .entry)) ⌝ }
 {
     let grad = e.grad;
-    strain::scale6(&grad, get_f32(b, layout::NEO_DT))
+    strain::scale6(&grad, f32_at(b, layout::NEO_DT))
 }
 
 fn material_of(b: &[u8]) -> Material
-    requires { ⌜ 678 ≤ length (now b) ⌝ }
+    requires { ⌜ (678 ≤ length (now b)) × AllWritten (now b) ⌝ }
     ensures { λ r. ⌜ r ≡ materialOf (now (b .entry)) ⌝ }
 {
     let damping = floats6_at(b, layout::NEO_DAMPING);
     Material {
-        dt: get_f32(b, layout::NEO_DT),
-        mu: get_f32(b, layout::NEO_MU),
-        lambda: get_f32(b, layout::NEO_LAMBDA),
+        dt: f32_at(b, layout::NEO_DT),
+        mu: f32_at(b, layout::NEO_MU),
+        lambda: f32_at(b, layout::NEO_LAMBDA),
         damping,
     }
 }
@@ -72,7 +73,7 @@ pub struct Update {
 }
 
 pub fn updated(b: &[u8], held: Holds) -> Update
-    requires { ⌜ 678 ≤ length (now b) ⌝ }
+    requires { ⌜ (678 ≤ length (now b)) × AllWritten (now b) ⌝ }
     ensures { λ r. ⌜ r ≡ spec.updateAnew held (now (b .entry)) ⌝ }
 {
     let pose = cell_record::pose_anew(b, held);
@@ -87,7 +88,7 @@ pub fn updated(b: &[u8], held: Holds) -> Update
 }
 
 pub fn is_kept(b: &[u8], u: Update) -> bool
-    requires { ⌜ 678 ≤ length (now b) ⌝ }
+    requires { ⌜ (678 ≤ length (now b)) × AllWritten (now b) ⌝ }
     ensures { λ r. ⌜ r ≡ isFresh (u .pose .strain) (floatsAt 6 (now (b .entry)) at.neoStiffnessStrain) ⌝ }
 {
     let pose = u.pose;
@@ -97,7 +98,7 @@ pub fn is_kept(b: &[u8], u: Update) -> bool
 }
 
 pub fn renewed(b: &[u8], u: Update) -> Block
-    requires { ⌜ 678 ≤ length (now b) ⌝ }
+    requires { ⌜ (678 ≤ length (now b)) × AllWritten (now b) ⌝ }
     ensures { λ r. ⌜ r ≡ spec.blockAnew (u .energy) (u .pose .strain) (u .«dt_grad») (now (b .entry)) ⌝ }
 {
     let pose = u.pose;
@@ -111,7 +112,7 @@ pub fn renewed(b: &[u8], u: Update) -> Block
 
 fn put_block(b: &mut [u8], k: Block)
     requires { ⌜ 678 ≤ length (now b) ⌝ }
-    ensures { λ _. ⌜ now (b .exit) ≡ spec.putAnew k (now (b .entry)) ⌝ }
+    ensures { λ _. ⌜ (now (b .exit) ≡ spec.putAnew k (now (b .entry))) × Kept (now (b .entry)) (now (b .exit)) ⌝ }
 {
     let s = k.stiffness;
     let strain = s.stiffness_strain;
@@ -126,7 +127,7 @@ fn put_block(b: &mut [u8], k: Block)
 // What is put last, whether the block is kept or renewed.
 fn put_strains(b: &mut [u8], u: Update, least: f32)
     requires { ⌜ 678 ≤ length (now b) ⌝ }
-    ensures { λ _. ⌜ now (b .exit) ≡ spec.putStrains u least (now (b .entry)) ⌝ }
+    ensures { λ _. ⌜ (now (b .exit) ≡ spec.putStrains u least (now (b .entry))) × Kept (now (b .entry)) (now (b .exit)) ⌝ }
 {
     let pose = u.pose;
     let strain = pose.strain;
@@ -137,7 +138,7 @@ fn put_strains(b: &mut [u8], u: Update, least: f32)
 
 pub fn put_kept(b: &mut [u8], u: Update, least: f32)
     requires { ⌜ 678 ≤ length (now b) ⌝ }
-    ensures { λ _. ⌜ now (b .exit) ≡ spec.putStrains u least (putPose (u .pose) (now (b .entry))) ⌝ }
+    ensures { λ _. ⌜ (now (b .exit) ≡ spec.putStrains u least (putPose (u .pose) (now (b .entry)))) × Kept (now (b .entry)) (now (b .exit)) ⌝ }
 {
     let pose = u.pose;
     put_pose(b, pose);
@@ -146,7 +147,7 @@ pub fn put_kept(b: &mut [u8], u: Update, least: f32)
 
 pub fn put_renewed(b: &mut [u8], u: Update, k: Block, least: f32)
     requires { ⌜ 678 ≤ length (now b) ⌝ }
-    ensures { λ _. ⌜ now (b .exit) ≡ spec.putStrains u least (spec.putAnew k (putPose (u .pose) (now (b .entry)))) ⌝ }
+    ensures { λ _. ⌜ (now (b .exit) ≡ spec.putStrains u least (spec.putAnew k (putPose (u .pose) (now (b .entry))))) × Kept (now (b .entry)) (now (b .exit)) ⌝ }
 {
     let pose = u.pose;
     put_pose(b, pose);
@@ -157,7 +158,7 @@ pub fn put_renewed(b: &mut [u8], u: Update, k: Block, least: f32)
 // ---- warm start
 
 pub fn warmed(b: &[u8], coeff: f32) -> Solved
-    requires { ⌜ 678 ≤ length (now b) ⌝ }
+    requires { ⌜ (678 ≤ length (now b)) × AllWritten (now b) ⌝ }
     ensures { λ r. ⌜ r ≡ n.warmstart (neoHookeanOf (now (b .entry))) coeff ⌝ }
 {
     let rot = mat3_at(b, layout::ELASTIC_ROT_MAT);
@@ -170,7 +171,7 @@ pub fn warmed(b: &[u8], coeff: f32) -> Solved
 // ---- solve
 
 fn stiffness_of(b: &[u8]) -> Stiffness
-    requires { ⌜ 678 ≤ length (now b) ⌝ }
+    requires { ⌜ (678 ≤ length (now b)) × AllWritten (now b) ⌝ }
     ensures { λ r. ⌜ r ≡ stiffnessOf (now (b .entry)) ⌝ }
 {
     let stiffness_strain = floats6_at(b, layout::NEO_STIFFNESS_STRAIN);
@@ -191,7 +192,7 @@ fn stiffness_of(b: &[u8]) -> Stiffness
 
 // What the strain rows take.
 fn strain_step(b: &[u8], rot: Mat3, coeffs: Four, impulse: &[f32; 6], vel: Holds) -> [f32; 6]
-    requires { ⌜ 678 ≤ length (now b) ⌝ }
+    requires { ⌜ (678 ≤ length (now b)) × AllWritten (now b) ⌝ }
     ensures { λ r. ⌜ r ≡ spec.strainStepAt rot coeffs (now (impulse .entry)) vel (now (b .entry)) ⌝ }
 {
     let rate = cell::solve::strain_rates(rot, coeffs, vel);
@@ -200,7 +201,7 @@ fn strain_step(b: &[u8], rot: Mat3, coeffs: Four, impulse: &[f32; 6], vel: Holds
 }
 
 pub fn solved(b: &[u8], vel: Holds) -> Solved
-    requires { ⌜ 678 ≤ length (now b) ⌝ }
+    requires { ⌜ (678 ≤ length (now b)) × AllWritten (now b) ⌝ }
     ensures { λ r. ⌜ r ≡ n.solve (neoHookeanOf (now (b .entry))) vel ⌝ }
 {
     let rot = mat3_at(b, layout::ELASTIC_ROT_MAT);
@@ -215,7 +216,7 @@ pub fn solved(b: &[u8], vel: Holds) -> Solved
 // The volumetric impulse is not written: this model never uses it.
 pub fn put_solved(b: &mut [u8], l: Impulses)
     requires { ⌜ 678 ≤ length (now b) ⌝ }
-    ensures { λ _. ⌜ now (b .exit) ≡ putFloats 6 (now (b .entry)) at.elasticStrainImpulse (l .strain) ⌝ }
+    ensures { λ _. ⌜ (now (b .exit) ≡ putFloats 6 (now (b .entry)) at.elasticStrainImpulse (l .strain)) × Kept (now (b .entry)) (now (b .exit)) ⌝ }
 {
     let strain = l.strain;
     put_floats6(b, layout::ELASTIC_STRAIN_IMPULSE, &strain);

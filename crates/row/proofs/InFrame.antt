@@ -8,6 +8,7 @@ use lib.ListN.{length, take, drop}
 use lib.Seq.{drop-drop}
 use Rattle.bytes.specs.Bytes.{le16}
 use Rattle.records.specs.Records.{recordLength, recordAt}
+use Rattle.floats.specs.Written.{AllWritten, Kept}
 use Rattle.row.specs.Widths.{rowLength}
 use Rattle.row.specs.InFrame.{Stands, onRecord}
 
@@ -15,6 +16,9 @@ module _ {off e : ℕ} {s : List ℕ} (w : Stands off e s) where
   -- of the part that was found
   pub wide-of : {b : List ℕ} → (b ≡ recordAt s off) × (length b ≡ recordLength s off) → rowLength (le16 b 4) ≤ length b
   wide-of {b} f = subst (λ (l : ℕ). rowLength (le16 b 4) ≤ l) (sym (f .1)) (subst (λ (c : List ℕ). rowLength (le16 c 4) ≤ recordLength s off) (sym (f .0)) (w .wide))
+
+  pub written-of : {b : List ℕ} → (b ≡ recordAt s off) × (length b ≡ recordLength s off) → AllWritten b
+  written-of f = subst AllWritten (sym (f .0)) (w .written)
 
   -- the part that is lent
   size : e - off ≡ recordLength s off
@@ -33,3 +37,6 @@ module _ {off e : ℕ} {s : List ℕ} (w : Stands off e s) where
     -- lent and come back as ys
     pub put-back : (f : List ℕ → List ℕ) {ys : List ℕ} → ys ≡ f b → take off s ++ (ys ++ drop (e - off) (drop off s)) ≡ onRecord off f s
     put-back f h = λ i. take off s ++ ((h ∙ ap f (found .0)) i ++ rest i)
+
+    pub written-back : (f : List ℕ → List ℕ) {ys : List ℕ} → ys ≡ f b → Kept (take (e - off) (drop off s)) ys → AllWritten (f (recordAt s off))
+    written-back f h k = subst AllWritten (h ∙ ap f (found .0)) (k (subst AllWritten (sym lent-is) (written-of found)))

@@ -7,7 +7,7 @@ ghost use Rattle.rows.specs.Row as rows;
 ghost use Rattle.stored.specs.Phases as spec;
 ghost use Rattle.records.specs.Records.{recordAt};
 ghost use Rattle.row.specs.Widths.{rowLength};
-ghost use Rattle.row.specs.InFrame.{Stands, onRecord};
+ghost use Rattle.row.specs.InFrame.{Stands, Anew};
 use places::Holds;
 use places::Ids;
 use records::layout;
@@ -54,7 +54,7 @@ pub fn is_strained(b: &[u8]) -> bool
 
 pub fn update_row(s: &mut [u8], off: usize, e: usize, held: Holds, least: f32)
     requires { ⌜ Stands off e (now s) ⌝ }
-    ensures { λ _. ⌜ now (s .exit) ≡ onRecord off (spec.updateRow least held) (now (s .entry)) ⌝ }
+    ensures { λ _. ⌜ Anew off (spec.updateRow least held) (now (s .entry)) (now (s .exit)) ⌝ }
 {
     let b = records::record_at(s, off);
     let kind = bytes::get_u16(b, layout::KIND_AT);
@@ -80,7 +80,7 @@ pub fn update_row(s: &mut [u8], off: usize, e: usize, held: Holds, least: f32)
 // What each place is to lose.
 pub fn warm_row(s: &mut [u8], off: usize, e: usize, coeff: f32) -> Four
     requires { ⌜ Stands off e (now s) ⌝ }
-    ensures { λ r. ⌜ (now (s .exit) ≡ onRecord off (spec.warmRow coeff) (now (s .entry))) × (r ≡ spec.warmLoss coeff (recordAt (now (s .entry)) off)) ⌝ }
+    ensures { λ r. ⌜ Anew off (spec.warmRow coeff) (now (s .entry)) (now (s .exit)) × (r ≡ spec.warmLoss coeff (recordAt (now (s .entry)) off)) ⌝ }
 {
     let b = records::record_at(s, off);
     let kind = bytes::get_u16(b, layout::KIND_AT);
@@ -101,7 +101,7 @@ pub fn warm_row(s: &mut [u8], off: usize, e: usize, coeff: f32) -> Four
 
 pub fn solve_row(s: &mut [u8], off: usize, e: usize, vel: Holds) -> Four
     requires { ⌜ Stands off e (now s) ⌝ }
-    ensures { λ r. ⌜ (now (s .exit) ≡ onRecord off (spec.solveRow vel) (now (s .entry))) × (r ≡ spec.solveLoss vel (recordAt (now (s .entry)) off)) ⌝ }
+    ensures { λ r. ⌜ Anew off (spec.solveRow vel) (now (s .entry)) (now (s .exit)) × (r ≡ spec.solveLoss vel (recordAt (now (s .entry)) off)) ⌝ }
 {
     let b = records::record_at(s, off);
     let kind = bytes::get_u16(b, layout::KIND_AT);

@@ -1,11 +1,12 @@
 -- The phases of a row on bytes that may or may not be its record. Definitions only. Assumes nothing.
-use Prim.Native.Nat.{ℕ}
+use Prim.Native.Nat.{ℕ, _+_, _*_, _-_, _/_, _%_}
 use mathlib.Core.Bool.{Bool, true, false, cond, _&&_, _||_}
 use mathlib.Core.List.{List}
 use lib.Dec.{eqb, leb}
 use lib.Ieee.{Float}
 use lib.ListN.{length}
-use Rattle.bytes.specs.Bytes.{le16}
+use Rattle.loops.specs.Loops.{upTo}
+use Rattle.bytes.specs.Bytes.{le16, le32}
 use Rattle.vector.specs.Vector.{zeroVector}
 use Rattle.vector.specs.declared.Four.{Four}
 use Rattle.places.specs.declared.Holds.{Holds}
@@ -15,12 +16,23 @@ use Rattle.row.specs.Widths.{rowLength}
 use Rattle.stored.specs.Phases.{updateRow, warmRow, warmLoss, solveRow, solveLoss}
 use Rattle.rows_ffi.specs.declared.Lost.{Lost}
 
--- one row's record, whole: its length says so, it has a row's kind, and room for the fields of that kind
-unfoldable pub isRow : List ℕ → Bool
-isRow s =
+-- a record, whole: its length says so, it has a row's kind, and room for the fields of that kind
+unfoldable pub isRecord : List ℕ → Bool
+isRecord s =
     cond (leb 6 (length s))
     (eqb (recordLength s 0) (length s) && (eqb (le16 s at.kindAt) 3 || eqb (le16 s at.kindAt) 4 || eqb (le16 s at.kindAt) 5) && leb (rowLength (le16 s at.kindAt)) (recordLength s 0))
     false
+
+-- its floats are as put_f32 writes them: of a NaN's patterns there is 0x7FC00000 alone
+unfoldable pub isWritten : ℕ → Bool
+isWritten n = leb (n % 2147483648) 2139095040 || eqb n 2143289344
+
+unfoldable pub allWritten : ℕ → List ℕ → Bool
+allWritten n s = upTo n (λ i t. t && isWritten (le32 s (at.rowPos + 4 * i))) true
+
+-- one row's record
+unfoldable pub isRow : List ℕ → Bool
+isRow s = cond (isRecord s) (allWritten ((length s - at.rowPos) / 4) s) false
 
 -- what is no row's record stays
 unfoldable pub updated : Float → Holds → List ℕ → List ℕ

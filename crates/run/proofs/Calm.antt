@@ -4,10 +4,9 @@ use mathlib.Core.Path.{_≡_, refl, sym, ap, _∙_, subst}
 use mathlib.Core.Bool.{Bool, true}
 use mathlib.Core.List.{List, [], _∷_, _++_, append-assoc}
 use native.Mathlib.Omega.{arith}
-use native.Mathlib.Nat.{add-zero, not-suc-le-zero, le-of-suc-le-suc}
+use native.Mathlib.Nat.{not-suc-le-zero, le-of-suc-le-suc}
 use lib.Ieee.{binary32, ofBits}
 use lib.ListN.{length, length-append}
-use borrow.Author.Tests.{not-false}
 use Rattle.bytes.specs.Bytes.{le16, le32, f32At, isFinite}
 use Rattle.bytes.proofs.Parts.{le32-middle}
 use Rattle.records.specs.declared.Due.the-variants.{Point}
@@ -18,14 +17,8 @@ use Rattle.records.proofs.ByKind.{Kind, a-point, fields-2}
 use Rattle.floats.proofs.Same.{Finite3}
 use Rattle.acceptance.specs.Whole.{Good, Chain}
 use Rattle.acceptance.proofs.Parsing.{good-kind}
+use Rattle.acceptance.proofs.Finites.{run-finite}
 use Rattle.acceptance.proofs.Wholes.{point-length}
-
--- float j of n that pass
-run-finite : (b : List ℕ) (n k j : ℕ) → j < n → Passed (run (finite b) k n) → isFinite (f32At b (k + 4 * j)) ≡ true
-unfolding run finite Passed
-run-finite b zero k j h p = absurd (omega arith)
-run-finite b (suc n) k zero h p = ap (λ (i : ℕ). isFinite (f32At b i)) (add-zero k) ∙ not-false _ (p .0)
-run-finite b (suc n) k (suc j) h p = ap (λ (i : ℕ). isFinite (f32At b i)) (omega arith) ∙ run-finite b n (k + 4) j (omega arith) (p .1)
 
 point-finite : (c : ℕ) (b : List ℕ) → Good Point c b → Finite3 b 18
 unfolding pointFields

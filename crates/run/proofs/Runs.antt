@@ -26,6 +26,7 @@ use Rattle.row.specs.Widths.{rowLength}
 use Rattle.floats.proofs.Same.{Finite3}
 use Rattle.points.specs.Apart.{velocityAt}
 use Rattle.run.proofs.Calm.{points-finite}
+use Rattle.run.proofs.Written.{row-written}
 use Rattle.sweep.specs.Laid.{Calm, RowSized, RowsSized, stepOf, Laid, Ready, Ran}
 use Rattle.sweep.specs.declared.Turn.{Turn}
 use Rattle.run.specs.Start.{mainTurn}
@@ -34,7 +35,7 @@ use Rattle.run.specs.Start.{mainTurn}
 
 row-sized : (c : ℕ) (b : List ℕ) → Good Row c b → RowSized b
 unfolding rowLength
-row-sized c b g = record { size = g .size; wide = go (good-kind Row c b g); scalar = exact (good-kind Row c b g) }
+row-sized c b g = record { size = g .size; wide = go (good-kind Row c b g); scalar = exact (good-kind Row c b g); written = row-written c b g }
   where
     go : Kind Row (le16 b 4) (le32 b 0) → rowLength (le16 b 4) ≤ length b
     go (a-scalar k n) = subst (λ (m : ℕ). rowLength m ≤ length b) (sym k) (omega (arith, g .size))

@@ -7,13 +7,14 @@ ghost use lib.ListN.{length};
 ghost use Rattle.records.specs.Layout as at;
 ghost use Rattle.scalar.specs.Row as s;
 ghost use Rattle.floats.specs.Fields.{putF32};
+ghost use Rattle.floats.specs.Written.{AllWritten, Kept};
 ghost use Rattle.stored.specs.Read.{springAt, responseAt, scalarOf};
 ghost use Rattle.stored.specs.Put.{putFlag, putResponse, putScalar};
-use bytes::get_f32;
 use bytes::get_u16;
-use bytes::put_f32;
+use floats::f32_at;
 use floats::four_at;
 use floats::masses_at;
+use floats::put_f32;
 use floats::put_four;
 use places::Holds;
 use records::layout;
@@ -32,35 +33,35 @@ fn wide(n: u16) -> u32
 }
 
 fn spring_at(b: &[u8]) -> Spring
-    requires { ⌜ 182 ≤ length (now b) ⌝ }
+    requires { ⌜ (182 ≤ length (now b)) × AllWritten (now b) ⌝ }
     ensures { λ r. ⌜ r ≡ springAt (now (b .entry)) ⌝ }
 {
     Spring {
-        rest: get_f32(b, layout::SCALAR_REST),
-        erp_inv_dt: get_f32(b, layout::SCALAR_ERP_INV_DT),
-        cfm_coeff: get_f32(b, layout::SCALAR_CFM_COEFF),
-        lower: get_f32(b, layout::SCALAR_LOWER),
-        upper: get_f32(b, layout::SCALAR_UPPER),
+        rest: f32_at(b, layout::SCALAR_REST),
+        erp_inv_dt: f32_at(b, layout::SCALAR_ERP_INV_DT),
+        cfm_coeff: f32_at(b, layout::SCALAR_CFM_COEFF),
+        lower: f32_at(b, layout::SCALAR_LOWER),
+        upper: f32_at(b, layout::SCALAR_UPPER),
     }
 }
 
 fn response_at(b: &[u8]) -> Response
-    requires { ⌜ 182 ≤ length (now b) ⌝ }
+    requires { ⌜ (182 ≤ length (now b)) × AllWritten (now b) ⌝ }
     ensures { λ r. ⌜ r ≡ responseAt (now (b .entry)) ⌝ }
 {
     Response {
-        inv_lhs: get_f32(b, layout::SCALAR_INV_LHS),
-        cfm_gain: get_f32(b, layout::SCALAR_CFM_GAIN),
-        rhs: get_f32(b, layout::SCALAR_RHS),
-        impulse: get_f32(b, layout::SCALAR_IMPULSE),
-        peak_impulse: get_f32(b, layout::SCALAR_PEAK_IMPULSE),
+        inv_lhs: f32_at(b, layout::SCALAR_INV_LHS),
+        cfm_gain: f32_at(b, layout::SCALAR_CFM_GAIN),
+        rhs: f32_at(b, layout::SCALAR_RHS),
+        impulse: f32_at(b, layout::SCALAR_IMPULSE),
+        peak_impulse: f32_at(b, layout::SCALAR_PEAK_IMPULSE),
     }
 }
 
 // The whole row. It stands three times, once for each phase: a function with one caller is compiled into it, and the fields that the phase
 // does not use are never read. One function for all three made scalar sheets take up to twice as long.
 fn row_to_update(b: &[u8]) -> SoftScalarConstraint
-    requires { ⌜ 182 ≤ length (now b) ⌝ }
+    requires { ⌜ (182 ≤ length (now b)) × AllWritten (now b) ⌝ }
     ensures { λ r. ⌜ r ≡ scalarOf (now (b .entry)) ⌝ }
 {
     SoftScalarConstraint {
@@ -75,7 +76,7 @@ fn row_to_update(b: &[u8]) -> SoftScalarConstraint
 }
 
 fn row_to_warm(b: &[u8]) -> SoftScalarConstraint
-    requires { ⌜ 182 ≤ length (now b) ⌝ }
+    requires { ⌜ (182 ≤ length (now b)) × AllWritten (now b) ⌝ }
     ensures { λ r. ⌜ r ≡ scalarOf (now (b .entry)) ⌝ }
 {
     SoftScalarConstraint {
@@ -90,7 +91,7 @@ fn row_to_warm(b: &[u8]) -> SoftScalarConstraint
 }
 
 fn row_to_solve(b: &[u8]) -> SoftScalarConstraint
-    requires { ⌜ 182 ≤ length (now b) ⌝ }
+    requires { ⌜ (182 ≤ length (now b)) × AllWritten (now b) ⌝ }
     ensures { λ r. ⌜ r ≡ scalarOf (now (b .entry)) ⌝ }
 {
     SoftScalarConstraint {
@@ -108,7 +109,7 @@ fn row_to_solve(b: &[u8]) -> SoftScalarConstraint
 
 fn put_response(b: &mut [u8], s: Response)
     requires { ⌜ 182 ≤ length (now b) ⌝ }
-    ensures { λ _. ⌜ now (b .exit) ≡ putResponse s (now (b .entry)) ⌝ }
+    ensures { λ _. ⌜ (now (b .exit) ≡ putResponse s (now (b .entry))) × Kept (now (b .entry)) (now (b .exit)) ⌝ }
 {
     put_f32(b, layout::SCALAR_INV_LHS, s.inv_lhs);
     put_f32(b, layout::SCALAR_CFM_GAIN, s.cfm_gain);
@@ -118,7 +119,7 @@ fn put_response(b: &mut [u8], s: Response)
 
 fn put_scalar(b: &mut [u8], r: SoftScalarConstraint)
     requires { ⌜ 182 ≤ length (now b) ⌝ }
-    ensures { λ _. ⌜ now (b .exit) ≡ putScalar r (now (b .entry)) ⌝ }
+    ensures { λ _. ⌜ (now (b .exit) ≡ putScalar r (now (b .entry))) × Kept (now (b .entry)) (now (b .exit)) ⌝ }
 {
     put_four(b, layout::ROW_POS, r.pos);
     put_four(b, layout::SCALAR_GRAD, r.grad);
@@ -128,7 +129,7 @@ fn put_scalar(b: &mut [u8], r: SoftScalarConstraint)
 // ---- the phases: what each makes of the row, and what it puts
 
 pub fn begun(b: &[u8], held: Holds) -> SoftScalarConstraint
-    requires { ⌜ 182 ≤ length (now b) ⌝ }
+    requires { ⌜ (182 ≤ length (now b)) × AllWritten (now b) ⌝ }
     ensures { λ r. ⌜ r ≡ s.begin (scalarOf (now (b .entry))) held ⌝ }
 {
     scalar::begin(row_to_update(b), held)
@@ -136,21 +137,21 @@ pub fn begun(b: &[u8], held: Holds) -> SoftScalarConstraint
 
 pub fn put_begun(b: &mut [u8], r: SoftScalarConstraint, least: f32)
     requires { ⌜ 182 ≤ length (now b) ⌝ }
-    ensures { λ _. ⌜ now (b .exit) ≡ putFlag (putScalar r (now (b .entry))) at.rowStrained (s.isStrained r least) ⌝ }
+    ensures { λ _. ⌜ (now (b .exit) ≡ putFlag (putScalar r (now (b .entry))) at.rowStrained (s.isStrained r least)) × Kept (now (b .entry)) (now (b .exit)) ⌝ }
 {
     put_scalar(b, r);
     put_flag(b, layout::ROW_STRAINED, scalar::is_strained(r, least));
 }
 
 pub fn warmed(b: &[u8], coeff: f32) -> Solved
-    requires { ⌜ 182 ≤ length (now b) ⌝ }
+    requires { ⌜ (182 ≤ length (now b)) × AllWritten (now b) ⌝ }
     ensures { λ r. ⌜ r ≡ s.warmstart (scalarOf (now (b .entry))) coeff ⌝ }
 {
     scalar::warmstart(row_to_warm(b), coeff)
 }
 
 pub fn solved(b: &[u8], vel: Holds) -> Solved
-    requires { ⌜ 182 ≤ length (now b) ⌝ }
+    requires { ⌜ (182 ≤ length (now b)) × AllWritten (now b) ⌝ }
     ensures { λ r. ⌜ r ≡ s.solve (scalarOf (now (b .entry))) vel ⌝ }
 {
     scalar::solve(row_to_solve(b), vel)
@@ -159,7 +160,7 @@ pub fn solved(b: &[u8], vel: Holds) -> Solved
 // What a warm start and a solve assign.
 pub fn put_impulse(b: &mut [u8], r: SoftScalarConstraint)
     requires { ⌜ 182 ≤ length (now b) ⌝ }
-    ensures { λ _. ⌜ now (b .exit) ≡ putF32 (now (b .entry)) at.scalarImpulse (r .response .impulse) ⌝ }
+    ensures { λ _. ⌜ (now (b .exit) ≡ putF32 (now (b .entry)) at.scalarImpulse (r .response .impulse)) × Kept (now (b .entry)) (now (b .exit)) ⌝ }
 {
     put_f32(b, layout::SCALAR_IMPULSE, r.response.impulse);
 }

@@ -16,6 +16,7 @@ use Rattle.row.specs.Widths.{rowLength}
 use Rattle.row.specs.InFrame.{Stands, onRecord}
 use Rattle.stored.specs.Phases.{namesAt, updateRow, warmRow, warmLoss, solveRow, solveLoss}
 use Rattle.stored.specs.Points.{Points, position, update, warm, solve}
+use Rattle.floats.specs.Written.{AllWritten}
 use Rattle.points.specs.InFrame.{onPart, holdsIn, taken}
 use Rattle.points.specs.Apart.{moved, Fit, holdsOf, lost}
 use Rattle.points.proofs.Moved.{length-moved, moved-part, moved-onPart, positions-moved, holds-apart, lost-apart}
@@ -82,6 +83,7 @@ module _ {n off len : ℕ} (v : List Float) (s : List ℕ) (y : Standing n off l
     end = d ∙ ap (off +_) (sym said-apart);
     inside = omega (arith, d, room-apart .end);
     wide = subst (λ (l : ℕ). rowLength (le16 (recordAt s off) 4) ≤ l) (length-part s off (recordLength s off) (room-apart .said)) (room-apart .wide);
+    written = subst AllWritten (sym (record-here (y .at)) ∙ sym record-apart) (y .at .row .written);
   }
 
   -- the record made anew is the part of len bytes made anew
@@ -93,29 +95,29 @@ module _ {n off len : ℕ} (v : List Float) (s : List ℕ) (y : Standing n off l
 
   module _ (i : Ids) (names : i ≡ namesAt (recordAt s off)) where
     pub updated-apart : (least : Float) (held : Holds) (s′ : List ℕ) → held ≡ holdsIn position n s i → s′ ≡ onRecord off (updateRow least held) s
-        → Stepped (update n least) n off len (moved n v s) (moved n v s′)
-    updated-apart least held s′ g h =
+        → AllWritten (updateRow least held (recordAt s off)) → Stepped (update n least) n off len (moved n v s) (moved n v s′)
+    updated-apart least held s′ g h u =
         updated n off len (moved n v s) least (recordAt s off) i held (moved n v s′) record-apart names (g ∙ sym (positions-moved n v s (room-apart .points) i))
-        (ap (moved n v) (h ∙ part-of (updateRow least held)) ∙ moved-onPart n v s off behind inside len (updateRow least held))
+        (ap (moved n v) (h ∙ part-of (updateRow least held)) ∙ moved-onPart n v s off behind inside len (updateRow least held)) u
 
     module _ (q : Fit v) (s₁ : List ℕ) (p : 26 + 30 * n ≤ length s₁) (x : Four) (v′ : List Float) (t : v′ ≡ lost n v i x) where
       lost-here : moved n v′ s₁ ≡ taken n (moved n v s₁) i x
       lost-here = ap (λ (u : List Float). moved n u s₁) t ∙ lost-apart n v i x q s₁ p (room-apart .few)
 
       pub warmed-apart : (coeff : Float) → s₁ ≡ onRecord off (warmRow coeff) s → x ≡ warmLoss coeff (recordAt s off)
-          → Stepped (warm n coeff) n off len (moved n v s) (moved n v′ s₁)
-      warmed-apart coeff g h =
+          → AllWritten (warmRow coeff (recordAt s off)) → Stepped (warm n coeff) n off len (moved n v s) (moved n v′ s₁)
+      warmed-apart coeff g h u =
           warmed n off len (moved n v s) coeff (recordAt s off) i x (moved n v s₁) (moved n v′ s₁) record-apart names
           (ap (moved n v) (g ∙ part-of (warmRow coeff)) ∙ moved-onPart n v s off behind inside len (warmRow coeff))
-          (h ∙ ap (warmLoss coeff) (record-of ∙ sym (moved-part n v s off behind inside len))) lost-here
+          (h ∙ ap (warmLoss coeff) (record-of ∙ sym (moved-part n v s off behind inside len))) lost-here u
 
       pub solved-apart : (vel : Holds) → vel ≡ holdsOf n v i → s₁ ≡ onRecord off (solveRow vel) s → x ≡ solveLoss vel (recordAt s off)
-          → Stepped (solve n) n off len (moved n v s) (moved n v′ s₁)
-      solved-apart vel d g h =
+          → AllWritten (solveRow vel (recordAt s off)) → Stepped (solve n) n off len (moved n v s) (moved n v′ s₁)
+      solved-apart vel d g h u =
           solved n off len (moved n v s) (recordAt s off) i vel x (moved n v s₁) (moved n v′ s₁) record-apart names
           (d ∙ holds-apart n v s (room-apart .points) q i)
           (ap (moved n v) (g ∙ part-of (solveRow vel)) ∙ moved-onPart n v s off behind inside len (solveRow vel))
-          (h ∙ ap (solveLoss vel) (record-of ∙ sym (moved-part n v s off behind inside len))) lost-here
+          (h ∙ ap (solveLoss vel) (record-of ∙ sym (moved-part n v s off behind inside len))) lost-here u
 
 -- the names after a step that leaves them
 pub names-after : {n off len : ℕ} (v : List Float) (s : List ℕ) → Standing n off len (moved n v s) → (i : Ids) → i ≡ namesAt (recordAt s off)

@@ -10,6 +10,7 @@ use Rattle.bytes.proofs.Parts.{part-middle, le16-middle, le32-middle}
 use Rattle.records.specs.Records.{recordLength, recordAt, flatten}
 use Rattle.stored.specs.Points.{Points}
 use Rattle.stored.specs.Sizes.{Alike, alike-length, alike-kind, Same, same-length}
+use Rattle.floats.specs.Written.{AllWritten}
 use Rattle.row.specs.Widths.{rowLength}
 use Rattle.points.specs.InFrame.{Sized, onPart}
 use Rattle.points.proofs.Bridge.{length-points, onPart-middle}
@@ -76,11 +77,12 @@ room {n} {off} {len} {s} y =
 
 -- ---- sizes stay
 
-pub sized-alike : (b c : List ℕ) → Alike b c → RowSized c → RowSized b
-sized-alike b c a z = record {
+pub sized-alike : (b c : List ℕ) → Alike b c → AllWritten b → RowSized c → RowSized b
+sized-alike b c a y z = record {
   size = a .size ∙ z .size ∙ ap (4 +_) (sym (alike-length b c a));
   wide = subst (λ (m : ℕ). rowLength m ≤ length b) (sym (alike-kind b c a)) (subst (λ (l : ℕ). rowLength (le16 c 4) ≤ l) (sym (a .size)) (z .wide));
   scalar = λ k. a .size ∙ z .scalar (sym (alike-kind b c a) ∙ k);
+  written = y;
 }
 
 pub sized-same : (ps qs : Points) → Same ps qs → Sized qs → Sized ps
@@ -92,13 +94,13 @@ sized-same (p ∷ ps) (q ∷ qs) x z = (x .0 .size ∙ z .0, sized-same ps qs (x
 
 -- the same place with another row and other points of the same sizes
 pub still : {n off len : ℕ} {H : List ℕ} {ps : Points} {D b X s : List ℕ} → At n off len H ps D b X s → (ps′ : Points) (b′ s′ : List ℕ)
-    → Alike b′ b → Same ps′ ps → s′ ≡ H ++ (flatten ps′ ++ (D ++ (b′ ++ X))) → At n off len H ps′ D b′ X s′
-still {ps = ps} {b = b} w ps′ b′ s′ a q e = record {
+    → Alike b′ b → AllWritten b′ → Same ps′ ps → s′ ≡ H ++ (flatten ps′ ++ (D ++ (b′ ++ X))) → At n off len H ps′ D b′ X s′
+still {ps = ps} {b = b} w ps′ b′ s′ a y q e = record {
   bytes = e;
   head = w .head;
   many = same-length ps′ ps q ∙ w .many;
   sized = sized-same ps′ ps q (w .sized);
   place = w .place;
   long = a .size ∙ w .long;
-  row = sized-alike b′ b a (w .row);
+  row = sized-alike b′ b a y (w .row);
 }

@@ -17,6 +17,7 @@ use Rattle.stored.specs.Phases.{namesAt, isStrainedAt, updateRow, warmRow, warm
 use Rattle.stored.specs.Points.{Points, position, velocity, lose, only, update, warm, solve}
 use Rattle.stored.specs.Sizes.{Alike, Same, Steady, update-steady, warm-steady, solve-steady, lose-alike}
 use Rattle.stored.specs.PhaseLaws.{namesOn, names-are, update-names, warm-names, strained-is, positionsOn, velocitiesOn, update-is, update-leaves, warm-is, warm-loses, solve-is, solve-loses}
+use Rattle.floats.specs.Written.{AllWritten}
 use Rattle.points.specs.InFrame.{onPart, holdsIn, taken}
 use Rattle.points.proofs.Bridge.{holds-bridge, taken-bridge}
 use Rattle.sweep.specs.Laid.{At, Standing, Stepped, phases, stepOf}
@@ -43,33 +44,36 @@ module _ {n off len : ℕ} {H : List ℕ} {ps : Points} {D b X s : List ℕ} (w 
 
 pub updated : (n off len : ℕ) (s : List ℕ) (least : Float) (r : List ℕ) (i : Ids) (held : Holds) (s′ : List ℕ)
     → r ≡ recordAt s off → i ≡ namesAt r → held ≡ holdsIn position n s i → s′ ≡ onPart off len (updateRow least held) s
-    → Stepped (update n least) n off len s s′
-updated n off len s least r i held s′ e f g h H ps D b X w =
+    → AllWritten (updateRow least held r) → Stepped (update n least) n off len s s′
+updated n off len s least r i held s′ e f g h y H ps D b X w =
     let k : i ≡ namesAt b = f ∙ ap namesAt (e ∙ record-here w) in
     let q : held ≡ positionsOn b ps = g ∙ held-here w position i k in
-    still w ((update n least b ps) .1) ((update n least b ps) .0) s′ (update-steady n least .row b ps) (update-steady n least .points b ps)
+    still w ((update n least b ps) .1) ((update n least b ps) .0) s′ (update-steady n least .row b ps)
+    (subst AllWritten ((λ j. updateRow least (q j) ((e ∙ record-here w) j)) ∙ sym (update-is n b ps least)) y) (update-steady n least .points b ps)
     (h ∙ anew w (updateRow least held)
     ∙ (λ j. H ++ (flatten (sym (update-leaves n b ps least) j) ++ (D ++ ((ap (λ (y : Holds). updateRow least y b) q ∙ sym (update-is n b ps least)) j ++ X)))))
 
 pub warmed : (n off len : ℕ) (s : List ℕ) (coeff : Float) (r : List ℕ) (i : Ids) (x : Four) (s₁ s′ : List ℕ)
     → r ≡ recordAt s off → i ≡ namesAt r → s₁ ≡ onPart off len (warmRow coeff) s → x ≡ warmLoss coeff (part off len s) → s′ ≡ taken n s₁ i x
-    → Stepped (warm n coeff) n off len s s′
-warmed n off len s coeff r i x s₁ s′ e f g h t H ps D b X w =
+    → AllWritten (warmRow coeff r) → Stepped (warm n coeff) n off len s s′
+warmed n off len s coeff r i x s₁ s′ e f g h t u H ps D b X w =
     let k : i ≡ namesAt b = f ∙ ap namesAt (e ∙ record-here w) in
     let y : x ≡ warmLoss coeff b = h ∙ ap (warmLoss coeff) (row-here w) in
-    still w ((warm n coeff b ps) .1) ((warm n coeff b ps) .0) s′ (warm-steady n coeff .row b ps) (warm-steady n coeff .points b ps)
+    still w ((warm n coeff b ps) .1) ((warm n coeff b ps) .0) s′ (warm-steady n coeff .row b ps)
+    (subst AllWritten (ap (warmRow coeff) (e ∙ record-here w) ∙ sym (warm-is n b ps coeff)) u) (warm-steady n coeff .points b ps)
     (t ∙ ap (λ (l : List ℕ). taken n l i x) (g ∙ anew w (warmRow coeff))
     ∙ lost-here w i x (warmRow coeff b) k
     ∙ (λ j. H ++ (flatten ((ap (λ (z : Four). alters lose (lossesOf n (namesOn b) (four z)) ps) y ∙ sym (warm-loses n b ps coeff)) j) ++ (D ++ (sym (warm-is n b ps coeff) j ++ X)))))
 
 pub solved : (n off len : ℕ) (s : List ℕ) (r : List ℕ) (i : Ids) (vel : Holds) (x : Four) (s₁ s′ : List ℕ)
     → r ≡ recordAt s off → i ≡ namesAt r → vel ≡ holdsIn velocity n s i → s₁ ≡ onPart off len (solveRow vel) s → x ≡ solveLoss vel (part off len s) → s′ ≡ taken n s₁ i x
-    → Stepped (solve n) n off len s s′
-solved n off len s r i vel x s₁ s′ e f v g h t H ps D b X w =
+    → AllWritten (solveRow vel r) → Stepped (solve n) n off len s s′
+solved n off len s r i vel x s₁ s′ e f v g h t u H ps D b X w =
     let k : i ≡ namesAt b = f ∙ ap namesAt (e ∙ record-here w) in
     let q : vel ≡ velocitiesOn b ps = v ∙ held-here w velocity i k in
     let y : x ≡ solveLoss (velocitiesOn b ps) b = h ∙ (λ j. solveLoss (q j) (row-here w j)) in
-    still w ((solve n b ps) .1) ((solve n b ps) .0) s′ (solve-steady n .row b ps) (solve-steady n .points b ps)
+    still w ((solve n b ps) .1) ((solve n b ps) .0) s′ (solve-steady n .row b ps)
+    (subst AllWritten ((λ j. solveRow (q j) ((e ∙ record-here w) j)) ∙ sym (solve-is n b ps)) u) (solve-steady n .points b ps)
     (t ∙ ap (λ (l : List ℕ). taken n l i x) (g ∙ anew w (solveRow vel))
     ∙ lost-here w i x (solveRow vel b) k
     ∙ (λ j. H ++ (flatten ((ap (λ (z : Four). alters lose (lossesOf n (namesOn b) (four z)) ps) y ∙ sym (solve-loses n b ps)) j)

@@ -11,17 +11,20 @@ use Rattle.relisting.specs.Steps.{choose, nothing, sweep, sweeps, run}
 use Rattle.stored.specs.Read.{rowOf}
 use Rattle.stored.specs.Points.{Points, mainStep, resweepStep}
 use Rattle.stored.specs.Run.{lay}
+use Rattle.floats.specs.Written.{AllWritten}
 use Rattle.floats.proofs.Same.{Finite3}
 use Rattle.points.specs.InFrame.{Sized}
 use Rattle.points.specs.Apart.{velocityAt}
 use Rattle.row.specs.Widths.{rowLength}
 use Rattle.sweep.specs.declared.Turn.{Turn}
 
--- a row's record is as long as it says, and has room for the fields of its kind; a scalar row's has no more
+-- a row's record is as long as it says, and has room for the fields of its kind; a scalar row's has no more. Its floats are as put_f32
+-- writes them
 pub record RowSized (b : List ℕ) : Type 0 where
   pub size : length b ≡ recordLength b 0
   pub wide : rowLength (le16 b 4) ≤ length b
   pub scalar : le16 b 4 ≡ 3 → length b ≡ 182
+  pub written : AllWritten b
 
 unfoldable pub RowsSized : List (List ℕ) → Type 0
 RowsSized [] = Unit

@@ -1,28 +1,18 @@
 -- The floats of a good row are finite: its positions, and a scalar row's gradients. Assumes nothing.
-use Prim.Native.Nat.{ℕ, zero, suc, _+_, _*_, _<_, _≤_}
-use mathlib.Core.Path.{_≡_, ap, _∙_, subst}
-use mathlib.Core.Bool.{true}
+use Prim.Native.Nat.{ℕ, _+_, _*_, _≤_}
+use mathlib.Core.Path.{_≡_, ap, _∙_}
 use mathlib.Core.List.{List}
 use native.Mathlib.Omega.{arith}
-use native.Mathlib.Nat.{add-zero}
-use borrow.Author.Tests.{not-false}
 use Rattle.bytes.specs.Bytes.{le16, le32, f32At, isFinite}
 use Rattle.records.specs.declared.Due.the-variants.{Row}
 use Rattle.records.specs.Layout as at
 use Rattle.records.specs.Answers.{Passed}
-use Rattle.records.specs.Fields.{finite, run, scalarCodes, scalarFloats, elasticCodes, scalarFields, corotationalFields, neoHookeanFields, fields}
-use Rattle.records.proofs.Firsts.{passed-split}
-use Rattle.records.proofs.ByKind.{Kind, a-scalar, a-corotational, a-neo-hookean, due-kind, fields-3, fields-4, fields-else}
+use Rattle.records.specs.Fields.{finite, run}
+use Rattle.records.proofs.ByKind.{Kind, a-scalar, a-corotational, a-neo-hookean, due-kind}
 use Rattle.floats.proofs.Same.{Finite3}
 use Rattle.acceptance.specs.Whole.{Good}
+use Rattle.acceptance.proofs.Finites.{run-finite, scalar-run, corotational-run, neo-run}
 use Rattle.unassigned.proofs.Back.{Finite12}
-
--- float j of n that pass
-run-finite : (b : List ℕ) (n k j : ℕ) → j < n → Passed (run (finite b) k n) → isFinite (f32At b (k + 4 * j)) ≡ true
-unfolding run finite Passed
-run-finite b zero k j h p = absurd (omega arith)
-run-finite b (suc n) k zero h p = ap (λ (i : ℕ). isFinite (f32At b i)) (add-zero k) ∙ not-false _ (p .0)
-run-finite b (suc n) k (suc j) h p = ap (λ (i : ℕ). isFinite (f32At b i)) (omega arith) ∙ run-finite b n (k + 4) j (omega arith) (p .1)
 
 module _ (b : List ℕ) (n : ℕ) (p : Passed (run (finite b) at.rowPos n)) where
   -- the three floats from float j on, and twelve
@@ -41,26 +31,6 @@ module _ (b : List ℕ) (n : ℕ) (p : Passed (run (finite b) at.rowPos n)) wher
   grad-finite h = record { a = three 16 (omega arith); b = three 19 (omega arith); c = three 22 (omega arith); d = three 25 (omega arith) }
 
 module _ (c : ℕ) (b : List ℕ) where
-  scalar-run : le16 b 4 ≡ 3 → Passed (fields b c) → Passed (run (finite b) 30 36)
-  unfolding scalarFields scalarFloats
-  scalar-run k p =
-      let x = passed-split (scalarCodes b) _ (subst Passed (fields-3 b c k) p) in
-      let y = passed-split (scalarFloats b) _ (x .1) in
-      passed-split (run (finite b) 30 36) _ (y .0) .0
-
-  corotational-run : le16 b 4 ≡ 4 → Passed (fields b c) → Passed (run (finite b) 30 147)
-  unfolding corotationalFields
-  corotational-run k p =
-      let x = passed-split (elasticCodes b 1) _ (subst Passed (fields-4 b c k) p) in
-      passed-split (run (finite b) 30 147) _ (x .1) .0
-
-  neo-run : le16 b 4 ≡ 5 → Passed (fields b c) → Passed (run (finite b) 30 162)
-  unfolding neoHookeanFields
-  neo-run k p =
-      let q = fields-else b c (λ z. omega arith) (λ z. omega arith) (λ z. omega arith) (λ z. omega arith) in
-      let x = passed-split (elasticCodes b 0) _ (subst Passed q p) in
-      passed-split (run (finite b) 30 162) _ (x .1) .0
-
   module _ (g : Good Row c b) where
     kind : Kind Row (le16 b 4) (le32 b 0)
     kind = due-kind Row (le16 b 4) (le32 b 0) (g .due)
@@ -70,10 +40,10 @@ module _ (c : ℕ) (b : List ℕ) where
     good-pos = go kind
       where
         go : {n : ℕ} → Kind Row (le16 b 4) n → Finite12 b at.rowPos
-        go (a-scalar k e) = pos-finite b 36 (scalar-run k (g .passed)) (omega arith)
-        go (a-corotational k e) = pos-finite b 147 (corotational-run k (g .passed)) (omega arith)
-        go (a-neo-hookean k e) = pos-finite b 162 (neo-run k (g .passed)) (omega arith)
+        go (a-scalar k e) = pos-finite b 36 (scalar-run c b k (g .passed)) (omega arith)
+        go (a-corotational k e) = pos-finite b 147 (corotational-run c b k (g .passed)) (omega arith)
+        go (a-neo-hookean k e) = pos-finite b 162 (neo-run c b k (g .passed)) (omega arith)
 
     -- and a scalar row's gradients
     pub good-grad : le16 b 4 ≡ 3 → Finite12 b at.scalarGrad
-    good-grad k = grad-finite b 36 (scalar-run k (g .passed)) (omega arith)
+    good-grad k = grad-finite b 36 (scalar-run c b k (g .passed)) (omega arith)

@@ -1,5 +1,9 @@
 -- `cell_record::put_pose` meets its contract. One put after another. Assumes nothing.
 use borrow.Author.Needs.{needs}
+use native.Mathlib.Omega.{arith}
+use mathlib.Core.Path.{sym, subst}
+use Rattle.floats.specs.Written.{AllWritten}
+use Rattle.floats.proofs.Written.{flag-stays}
 use Rattle.stored.specs.Put.{putPose}
 use Rattle.cell_record.proofs.put_pose.Statement.{statement}
 use Rattle.cell_record.proofs.put_pose.Tie as tie
@@ -24,7 +28,10 @@ same-length c = search needs
 
 returns : tie.Need-returns
 unfolding putPose
-returns c = cc
+returns c = (
+  cc,
+  λ w. c .before .before .put-floats6 .ensures .1 (omega arith) (omega arith) (c .before .before .before .before .before .before .before .put-mat3 .ensures .1 (omega arith) (omega arith) (c .before .before .before .before .before .before .before .before .before .before .before .put-quat .ensures .1 (omega arith) (omega arith) (c .before .before .before .before .before .before .before .before .before .before .before .before .before .before .before .put-four .ensures .1 (omega arith) (omega arith) (subst AllWritten (sym (c .before .before .before .before .before .before .before .before .before .before .before .before .before .before .before .before .before .before .before .put-flag .ensures)) (flag-stays _ _ _ (omega arith) w))))),
+)
 
 pub put-pose-spec : {M : Type 1} → statement M
 put-pose-spec =

@@ -17,12 +17,15 @@ same-length : tie.Need-same-length
 same-length c = search needs
 
 returns : tie.Need-returns
-returns c = rw (
-  c .before .before .put-strained .ensures,
-  c .before .before .before .before .before .before .before .put-volume .ensures,
-  c .before .before .before .before .before .before .before .before .before .before .before .put-pose .ensures,
+returns c = (
+  rw (
+    c .before .before .put-strained .ensures .0,
+    c .before .before .before .before .before .before .before .put-volume .ensures .0,
+    c .before .before .before .before .before .before .before .before .before .before .before .put-pose .ensures .0,
+  )
+      refl,
+  λ w. c .before .before .put-strained .ensures .1 (c .before .before .before .before .before .before .before .put-volume .ensures .1 (c .before .before .before .before .before .before .before .before .before .before .before .put-pose .ensures .1 w)),
 )
-    refl
 
 pub put-updated-spec : {M : Type 1} → statement M
 put-updated-spec =

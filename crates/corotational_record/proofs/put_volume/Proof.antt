@@ -1,5 +1,6 @@
 -- `corotational_record::put_volume` meets its contract. One put after another. Assumes nothing.
 use borrow.Author.Needs.{needs}
+use native.Mathlib.Omega.{arith}
 use Rattle.stored.specs.Put.{putVolume}
 use Rattle.corotational_record.proofs.put_volume.Statement.{statement}
 use Rattle.corotational_record.proofs.put_volume.Tie as tie
@@ -27,7 +28,10 @@ same-length c = search needs
 
 returns : tie.Need-returns
 unfolding putVolume
-returns c = cc
+returns c = (
+  cc,
+  λ w. c .before .before .put-f323 .ensures .1 (omega arith) (omega arith) (c .before .before .before .before .before .before .put-floats62 .ensures .1 (omega arith) (omega arith) (c .before .before .before .before .before .before .before .before .before .before .before .put-floats6 .ensures .1 (omega arith) (omega arith) (c .before .before .before .before .before .before .before .before .before .before .before .before .before .before .before .before .put-f322 .ensures .1 (omega arith) (omega arith) (c .before .before .before .before .before .before .before .before .before .before .before .before .before .before .before .before .before .before .before .before .put-f32 .ensures .1 (omega arith) (omega arith) (c .before .before .before .before .before .before .before .before .before .before .before .before .before .before .before .before .before .before .before .before .before .before .before .before .put-four .ensures .1 (omega arith) (omega arith) w))))),
+)
 
 pub put-volume-spec : {M : Type 1} → statement M
 put-volume-spec =

@@ -10,14 +10,14 @@ floats6-at-requires c κs = search needs
 floats6-at-requires-2 : tie.Need-floats6-at-requires-2
 floats6-at-requires-2 c κs = search needs
 
-get-f32-requires : tie.Need-get-f32-requires
-get-f32-requires c κs = search needs
+f32-at-requires : tie.Need-f32-at-requires
+f32-at-requires c κs = search needs
 
-get-f32-requires-2 : tie.Need-get-f32-requires-2
-get-f32-requires-2 c κs = search needs
+f32-at-requires-2 : tie.Need-f32-at-requires-2
+f32-at-requires-2 c κs = search needs
 
-get-f32-requires-3 : tie.Need-get-f32-requires-3
-get-f32-requires-3 c κs = search needs
+f32-at-requires-3 : tie.Need-f32-at-requires-3
+f32-at-requires-3 c κs = search needs
 
 get-u16-requires : tie.Need-get-u16-requires
 get-u16-requires c κs = search needs
@@ -32,8 +32,8 @@ springs-of-spec =
     (tie.spec
     floats6-at-requires
     floats6-at-requires-2
-    get-f32-requires
-    get-f32-requires-2
-    get-f32-requires-3
+    f32-at-requires
+    f32-at-requires-2
+    f32-at-requires-3
     get-u16-requires
     returns)

@@ -13,14 +13,14 @@ floats6-at-requires-2 c κs = search needs
 four-at-requires : tie.Need-four-at-requires
 four-at-requires c κs = search needs
 
-get-f32-requires : tie.Need-get-f32-requires
-get-f32-requires c κs = search needs
+f32-at-requires : tie.Need-f32-at-requires
+f32-at-requires c κs = search needs
 
-get-f32-requires-2 : tie.Need-get-f32-requires-2
-get-f32-requires-2 c κs = search needs
+f32-at-requires-2 : tie.Need-f32-at-requires-2
+f32-at-requires-2 c κs = search needs
 
-get-f32-requires-3 : tie.Need-get-f32-requires-3
-get-f32-requires-3 c κs = search needs
+f32-at-requires-3 : tie.Need-f32-at-requires-3
+f32-at-requires-3 c κs = search needs
 
 returns : tie.Need-returns
 unfolding volumeOf
@@ -33,7 +33,7 @@ volume-of-spec =
     floats6-at-requires
     floats6-at-requires-2
     four-at-requires
-    get-f32-requires
-    get-f32-requires-2
-    get-f32-requires-3
+    f32-at-requires
+    f32-at-requires-2
+    f32-at-requires-3
     returns)

@@ -19,14 +19,14 @@ abbrev μ-loop : tie.MeasureT-loop
 loop-holds : tie.Need-loop-holds Inv-loop μ-loop
 loop-holds c = filled-none refl
 
-mul-get-f32 : tie.Need-mul-get-f32 Inv-loop μ-loop
-mul-get-f32 c = search needs
+mul-f32-at : tie.Need-mul-f32-at Inv-loop μ-loop
+mul-f32-at c = search needs
 
-add-get-f32 : tie.Need-add-get-f32 Inv-loop μ-loop
-add-get-f32 c = search needs
+add-f32-at : tie.Need-add-f32-at Inv-loop μ-loop
+add-f32-at c = search needs
 
-get-f32-requires : tie.Need-get-f32-requires Inv-loop μ-loop
-get-f32-requires c κs = search needs
+f32-at-requires : tie.Need-f32-at-requires Inv-loop μ-loop
+f32-at-requires c κs = search needs
 
 mul-out : tie.Need-mul-out Inv-loop μ-loop
 mul-out c = search needs
@@ -41,7 +41,7 @@ loop-less : tie.Need-loop-less Inv-loop μ-loop
 loop-less c = search needs
 
 loop-again : tie.Need-loop-again Inv-loop μ-loop
-loop-again c = filled-more (c .before .before .loop .inv) (search needs) (c .get-f32 .ensures)
+loop-again c = filled-more (c .before .before .loop .inv) (search needs) (c .f32-at .ensures)
 
 same-length : tie.Need-same-length Inv-loop μ-loop
 same-length c = search needs
@@ -57,9 +57,9 @@ get-floats-spec =
     Inv-loop
     μ-loop
     loop-holds
-    mul-get-f32
-    add-get-f32
-    get-f32-requires
+    mul-f32-at
+    add-f32-at
+    f32-at-requires
     mul-out
     slice-write-out
     add-i

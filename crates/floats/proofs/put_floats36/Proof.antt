@@ -14,7 +14,7 @@ same-length c = search needs
 returns : tie.Need-returns
 returns c =
     let e : length (c .before .before .before .before .before .before .args .l .now) ≡ 36 = search needs in
-    rw e at (c .before .before .put-floats .ensures)
+    (rw e at (c .before .before .put-floats .ensures .0), c .before .before .put-floats .ensures .1)
 
 pub put-floats36-spec : {M : Type 1} → statement M
 put-floats36-spec = tie.close (tie.spec put-floats-requires same-length returns)

@@ -1,4 +1,5 @@
 -- `floats::put_four` meets its contract. Its calls are the definition's. Assumes nothing.
+use native.Mathlib.Omega.{arith}
 use borrow.Author.Needs.{needs}
 use Rattle.floats.specs.Fields.{putFour}
 use Rattle.floats.proofs.put_four.Statement.{statement}
@@ -30,7 +31,14 @@ same-length c = search needs
 
 returns : tie.Need-returns
 unfolding putFour
-returns c = cc
+returns c = (
+  cc,
+  λ g t w.
+      c .before .before .put-vec34 .ensures .1 (omega arith) (omega arith)
+      (c .before .before .before .before .before .before .put-vec33 .ensures .1 (omega arith) (omega arith)
+      (c .before .before .before .before .before .before .before .before .before .before .put-vec32 .ensures .1 (omega arith) (omega arith)
+      (c .before .before .before .before .before .before .before .before .before .before .before .before .before .before .put-vec3 .ensures .1 g t w))),
+)
 
 pub put-four-spec : {M : Type 1} → statement M
 put-four-spec =

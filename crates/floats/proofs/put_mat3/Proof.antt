@@ -1,4 +1,5 @@
 -- `floats::put_mat3` meets its contract. Its calls are the definition's. Assumes nothing.
+use native.Mathlib.Omega.{arith}
 use borrow.Author.Needs.{needs}
 use Rattle.floats.specs.Fields.{putMat3}
 use Rattle.floats.proofs.put_mat3.Statement.{statement}
@@ -24,7 +25,13 @@ same-length c = search needs
 
 returns : tie.Need-returns
 unfolding putMat3
-returns c = cc
+returns c = (
+  cc,
+  λ g t w.
+      c .before .before .put-vec33 .ensures .1 (omega arith) (omega arith)
+      (c .before .before .before .before .before .before .put-vec32 .ensures .1 (omega arith) (omega arith)
+      (c .before .before .before .before .before .before .before .before .before .before .put-vec3 .ensures .1 g t w)),
+)
 
 pub put-mat3-spec : {M : Type 1} → statement M
 put-mat3-spec =

@@ -1,4 +1,5 @@
 -- `floats::put_quat` meets its contract. Its calls are the definition's. Assumes nothing.
+use native.Mathlib.Omega.{arith}
 use borrow.Author.Needs.{needs}
 use Rattle.floats.specs.Fields.{putQuat}
 use Rattle.floats.proofs.put_quat.Statement.{statement}
@@ -30,7 +31,14 @@ same-length c = search needs
 
 returns : tie.Need-returns
 unfolding putQuat
-returns c = cc
+returns c = (
+  cc,
+  λ g t w.
+      c .before .before .put-f324 .ensures .1 (omega arith) (omega arith)
+      (c .before .before .before .before .before .before .put-f323 .ensures .1 (omega arith) (omega arith)
+      (c .before .before .before .before .before .before .before .before .before .before .put-f322 .ensures .1 (omega arith) (omega arith)
+      (c .before .before .before .before .before .before .before .before .before .before .before .before .before .before .put-f32 .ensures .1 g t w))),
+)
 
 pub put-quat-spec : {M : Type 1} → statement M
 put-quat-spec =

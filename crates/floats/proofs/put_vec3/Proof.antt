@@ -1,4 +1,5 @@
 -- `floats::put_vec3` meets its contract. Its calls are the definition's. Assumes nothing.
+use native.Mathlib.Omega.{arith}
 use Prim.Native.Nat.{ℕ, _+_}
 use mathlib.Core.Path.{_≡_, refl}
 use mathlib.Core.List.{List}
@@ -36,8 +37,10 @@ returns c =
     let d = c .before .before in
     let e = d .before .before .before .before in
     let f = e .before .before .before .before in
-    let a = f .before .before .before .args in
-    in-turn _ (a .k) (a .v) (f .put-f32 .ensures) (e .put-f322 .ensures) (d .put-f323 .ensures)
+    let a = f .before .before .before .args in (
+      in-turn _ (a .k) (a .v) (f .put-f32 .ensures .0) (e .put-f322 .ensures .0) (d .put-f323 .ensures .0),
+      λ g t w. d .put-f323 .ensures .1 (omega arith) (omega arith) (e .put-f322 .ensures .1 (omega arith) (omega arith) (f .put-f32 .ensures .1 g t w)),
+    )
 
 pub put-vec3-spec : {M : Type 1} → statement M
 put-vec3-spec =

@@ -4,8 +4,8 @@ use Rattle.neo_hookean_record.specs.Parts.{dtGradAnew}
 use Rattle.neo_hookean_record.proofs.dt_grad_anew.Statement.{statement}
 use Rattle.neo_hookean_record.proofs.dt_grad_anew.Tie as tie
 
-get-f32-requires : tie.Need-get-f32-requires
-get-f32-requires c κs = search needs
+f32-at-requires : tie.Need-f32-at-requires
+f32-at-requires c κs = search needs
 
 scale6-requires : tie.Need-scale6-requires
 scale6-requires c κs = search needs
@@ -15,4 +15,4 @@ unfolding dtGradAnew
 returns c = cc
 
 pub dt-grad-anew-spec : {M : Type 1} → statement M
-dt-grad-anew-spec = tie.close (tie.spec get-f32-requires scale6-requires returns)
+dt-grad-anew-spec = tie.close (tie.spec f32-at-requires scale6-requires returns)

@@ -4,11 +4,11 @@ use Rattle.neo_hookean_record.specs.Parts.{energyAnew}
 use Rattle.neo_hookean_record.proofs.energy_anew.Statement.{statement}
 use Rattle.neo_hookean_record.proofs.energy_anew.Tie as tie
 
-get-f32-requires : tie.Need-get-f32-requires
-get-f32-requires c κs = search needs
+f32-at-requires : tie.Need-f32-at-requires
+f32-at-requires c κs = search needs
 
-get-f32-requires-2 : tie.Need-get-f32-requires-2
-get-f32-requires-2 c κs = search needs
+f32-at-requires-2 : tie.Need-f32-at-requires-2
+f32-at-requires-2 c κs = search needs
 
 gradient-requires : tie.Need-gradient-requires
 gradient-requires c κs = search needs
@@ -19,4 +19,4 @@ returns c = cc
 
 pub energy-anew-spec : {M : Type 1} → statement M
 energy-anew-spec =
-    tie.close (tie.spec get-f32-requires get-f32-requires-2 gradient-requires returns)
+    tie.close (tie.spec f32-at-requires f32-at-requires-2 gradient-requires returns)

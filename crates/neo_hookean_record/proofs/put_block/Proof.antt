@@ -1,5 +1,6 @@
 -- `neo_hookean_record::put_block` meets its contract. One put after another. Assumes nothing.
 use borrow.Author.Needs.{needs}
+use native.Mathlib.Omega.{arith}
 use Rattle.stored.specs.Put.{putRenewed}
 use Rattle.neo_hookean_record.proofs.put_block.Statement.{statement}
 use Rattle.neo_hookean_record.proofs.put_block.Tie as tie
@@ -18,7 +19,10 @@ same-length c = search needs
 
 returns : tie.Need-returns
 unfolding putRenewed
-returns c = cc
+returns c = (
+  cc,
+  λ w. c .before .before .put-floats362 .ensures .1 (omega arith) (omega arith) (c .before .before .before .before .before .before .before .put-floats36 .ensures .1 (omega arith) (omega arith) (c .before .before .before .before .before .before .before .before .before .before .before .before .put-floats6 .ensures .1 (omega arith) (omega arith) w)),
+)
 
 pub put-block-spec : {M : Type 1} → statement M
 put-block-spec =

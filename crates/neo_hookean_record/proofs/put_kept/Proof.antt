@@ -14,11 +14,14 @@ same-length : tie.Need-same-length
 same-length c = search needs
 
 returns : tie.Need-returns
-returns c = rw (
-  c .before .before .put-strains .ensures,
-  c .before .before .before .before .before .before .put-pose .ensures,
+returns c = (
+  rw (
+    c .before .before .put-strains .ensures .0,
+    c .before .before .before .before .before .before .put-pose .ensures .0,
+  )
+      refl,
+  λ w. c .before .before .put-strains .ensures .1 (c .before .before .before .before .before .before .put-pose .ensures .1 w),
 )
-    refl
 
 pub put-kept-spec : {M : Type 1} → statement M
 put-kept-spec = tie.close (tie.spec put-pose-requires put-strains-requires same-length returns)

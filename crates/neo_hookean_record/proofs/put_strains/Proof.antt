@@ -1,5 +1,6 @@
 -- `neo_hookean_record::put_strains` meets its contract. Its calls are the definition's. Assumes nothing.
 use borrow.Author.Needs.{needs}
+use native.Mathlib.Omega.{arith}
 use mathlib.Core.Path.{refl}
 use Rattle.neo_hookean_record.specs.Parts.{putStrains}
 use Rattle.neo_hookean_record.proofs.put_strains.Statement.{statement}
@@ -16,11 +17,14 @@ same-length c = search needs
 
 returns : tie.Need-returns
 unfolding putStrains
-returns c = rw (
-  c .before .before .put-strained .ensures,
-  c .before .before .before .before .before .before .before .put-floats6 .ensures,
+returns c = (
+  rw (
+    c .before .before .put-strained .ensures .0,
+    c .before .before .before .before .before .before .before .put-floats6 .ensures .0,
+  )
+      refl,
+  λ w. c .before .before .put-strained .ensures .1 (c .before .before .before .before .before .before .before .put-floats6 .ensures .1 (omega arith) (omega arith) w),
 )
-    refl
 
 pub put-strains-spec : {M : Type 1} → statement M
 put-strains-spec =

@@ -43,7 +43,7 @@ loop-less : tie.Need-loop-less Inv-loop μ-loop
 loop-less c = omega arith
 
 loop-again : tie.Need-loop-again Inv-loop μ-loop
-loop-again c = (scattered-more _ _ _ _ (c .before .before .before .before .before .before .loop .inv .0) _ _ (c .before .before .before .vec-of .ensures) (c .before .before .put-vec3 .ensures), omega arith)
+loop-again c = (scattered-more _ _ _ _ (c .before .before .before .before .before .before .loop .inv .0) _ _ (c .before .before .before .vec-of .ensures) (c .before .before .put-vec3 .ensures .0), omega arith)
 
 same-length : tie.Need-same-length Inv-loop μ-loop
 same-length c = scattered-long _ _ _ _ (c .before .loop .inv .0)

@@ -4,7 +4,7 @@ use native.Mathlib.Omega.{arith}
 use mathlib.Core.Path.{_∙_, ap}
 use Rattle.row.proofs.ByKind.{long-row, room-4, room-5, solve-3, solve-4, solve-5}
 use Rattle.stored.specs.Phases.{solveRow, solveLoss}
-use Rattle.row.proofs.InFrame.{wide-of, lent-is, lent-wide, put-back}
+use Rattle.row.proofs.InFrame.{wide-of, written-of, lent-is, lent-wide, put-back, written-back}
 use Rattle.row.proofs.solve_row.Statement.{statement}
 use Rattle.row.proofs.solve_row.Tie as tie
 
@@ -15,7 +15,7 @@ get-u16-requires : tie.Need-get-u16-requires
 get-u16-requires c κs = omega (arith, long-row _ _ (wide-of (c .before .before .before .pre) (c .record-at .ensures)))
 
 solved-requires : tie.Need-solved-requires
-solved-requires c κs = long-row _ _ (wide-of (c .before .before .before .before .before .pre) (c .before .before .record-at .ensures))
+solved-requires c κs = (long-row _ _ (wide-of (c .before .before .before .before .before .pre) (c .before .before .record-at .ensures)), written-of (c .before .before .before .before .before .pre) (c .before .before .record-at .ensures))
 
 sub-put-impulse : tie.Need-sub-put-impulse
 sub-put-impulse c = search needs
@@ -33,10 +33,10 @@ same-length : tie.Need-same-length
 same-length c = search needs
 
 returns : tie.Need-returns
-returns c = let w = solve-3 (lent-is (c .before .before .before .before .before .before .before .before .before .before .before .pre) (c .before .before .before .before .before .before .before .before .record-at .ensures)) (c .before .before .before .before .before .before .before .get-u16 .ensures) _ (c .before .before .before .before .before .before .if1 .taken) (c .before .before .before .before .before .solved .ensures) (c .before .before .before .put-impulse .ensures) in (put-back (c .before .before .before .before .before .before .before .before .before .before .before .pre) (c .before .before .before .before .before .before .before .before .record-at .ensures) (solveRow _) (w .0), w .1 ∙ ap (solveLoss _) (c .before .before .before .before .before .before .before .before .record-at .ensures .0))
+returns c = let w = solve-3 (lent-is (c .before .before .before .before .before .before .before .before .before .before .before .pre) (c .before .before .before .before .before .before .before .before .record-at .ensures)) (c .before .before .before .before .before .before .before .get-u16 .ensures) _ (c .before .before .before .before .before .before .if1 .taken) (c .before .before .before .before .before .solved .ensures) (c .before .before .before .put-impulse .ensures .0) in ((put-back (c .before .before .before .before .before .before .before .before .before .before .before .pre) (c .before .before .before .before .before .before .before .before .record-at .ensures) (solveRow _) (w .0), written-back (c .before .before .before .before .before .before .before .before .before .before .before .pre) (c .before .before .before .before .before .before .before .before .record-at .ensures) (solveRow _) (w .0) (c .before .before .before .put-impulse .ensures .1)), w .1 ∙ ap (solveLoss _) (c .before .before .before .before .before .before .before .before .record-at .ensures .0))
 
 solved-requires-2 : tie.Need-solved-requires-2
-solved-requires-2 c κs = room-4 _ _ _ (c .before .before .get-u16 .ensures) (c .before .if1 .left) (c .if2 .taken) (wide-of (c .before .before .before .before .before .before .pre) (c .before .before .before .record-at .ensures))
+solved-requires-2 c κs = (room-4 _ _ _ (c .before .before .get-u16 .ensures) (c .before .if1 .left) (c .if2 .taken) (wide-of (c .before .before .before .before .before .before .pre) (c .before .before .before .record-at .ensures)), written-of (c .before .before .before .before .before .before .pre) (c .before .before .before .record-at .ensures))
 
 sub-put-impulses : tie.Need-sub-put-impulses
 sub-put-impulses c = search needs
@@ -54,10 +54,10 @@ same-length-2 : tie.Need-same-length-2
 same-length-2 c = search needs
 
 returns-2 : tie.Need-returns-2
-returns-2 c = let w = solve-4 (lent-is (c .before .before .before .before .before .before .before .before .before .before .before .before .pre) (c .before .before .before .before .before .before .before .before .before .record-at .ensures)) (c .before .before .before .before .before .before .before .before .get-u16 .ensures) _ (c .before .before .before .before .before .before .before .if1 .left) (c .before .before .before .before .before .before .if2 .taken) (c .before .before .before .before .before .solved2 .ensures) (c .before .before .before .put-impulses .ensures) in (put-back (c .before .before .before .before .before .before .before .before .before .before .before .before .pre) (c .before .before .before .before .before .before .before .before .before .record-at .ensures) (solveRow _) (w .0), w .1 ∙ ap (solveLoss _) (c .before .before .before .before .before .before .before .before .before .record-at .ensures .0))
+returns-2 c = let w = solve-4 (lent-is (c .before .before .before .before .before .before .before .before .before .before .before .before .pre) (c .before .before .before .before .before .before .before .before .before .record-at .ensures)) (c .before .before .before .before .before .before .before .before .get-u16 .ensures) _ (c .before .before .before .before .before .before .before .if1 .left) (c .before .before .before .before .before .before .if2 .taken) (c .before .before .before .before .before .solved2 .ensures) (c .before .before .before .put-impulses .ensures .0) in ((put-back (c .before .before .before .before .before .before .before .before .before .before .before .before .pre) (c .before .before .before .before .before .before .before .before .before .record-at .ensures) (solveRow _) (w .0), written-back (c .before .before .before .before .before .before .before .before .before .before .before .before .pre) (c .before .before .before .before .before .before .before .before .before .record-at .ensures) (solveRow _) (w .0) (c .before .before .before .put-impulses .ensures .1)), w .1 ∙ ap (solveLoss _) (c .before .before .before .before .before .before .before .before .before .record-at .ensures .0))
 
 solved-requires-3 : tie.Need-solved-requires-3
-solved-requires-3 c κs = room-5 _ _ _ (c .before .before .get-u16 .ensures) (c .before .if1 .left) (c .if2 .left) (wide-of (c .before .before .before .before .before .before .pre) (c .before .before .before .record-at .ensures))
+solved-requires-3 c κs = (room-5 _ _ _ (c .before .before .get-u16 .ensures) (c .before .if1 .left) (c .if2 .left) (wide-of (c .before .before .before .before .before .before .pre) (c .before .before .before .record-at .ensures)), written-of (c .before .before .before .before .before .before .pre) (c .before .before .before .record-at .ensures))
 
 sub-put-solved : tie.Need-sub-put-solved
 sub-put-solved c = search needs
@@ -75,7 +75,7 @@ same-length-3 : tie.Need-same-length-3
 same-length-3 c = search needs
 
 returns-3 : tie.Need-returns-3
-returns-3 c = let w = solve-5 (lent-is (c .before .before .before .before .before .before .before .before .before .before .before .before .pre) (c .before .before .before .before .before .before .before .before .before .record-at .ensures)) (c .before .before .before .before .before .before .before .before .get-u16 .ensures) _ (c .before .before .before .before .before .before .before .if1 .left) (c .before .before .before .before .before .before .if2 .left) (c .before .before .before .before .before .solved3 .ensures) (c .before .before .before .put-solved .ensures) in (put-back (c .before .before .before .before .before .before .before .before .before .before .before .before .pre) (c .before .before .before .before .before .before .before .before .before .record-at .ensures) (solveRow _) (w .0), w .1 ∙ ap (solveLoss _) (c .before .before .before .before .before .before .before .before .before .record-at .ensures .0))
+returns-3 c = let w = solve-5 (lent-is (c .before .before .before .before .before .before .before .before .before .before .before .before .pre) (c .before .before .before .before .before .before .before .before .before .record-at .ensures)) (c .before .before .before .before .before .before .before .before .get-u16 .ensures) _ (c .before .before .before .before .before .before .before .if1 .left) (c .before .before .before .before .before .before .if2 .left) (c .before .before .before .before .before .solved3 .ensures) (c .before .before .before .put-solved .ensures .0) in ((put-back (c .before .before .before .before .before .before .before .before .before .before .before .before .pre) (c .before .before .before .before .before .before .before .before .before .record-at .ensures) (solveRow _) (w .0), written-back (c .before .before .before .before .before .before .before .before .before .before .before .before .pre) (c .before .before .before .before .before .before .before .before .before .record-at .ensures) (solveRow _) (w .0) (c .before .before .before .put-solved .ensures .1)), w .1 ∙ ap (solveLoss _) (c .before .before .before .before .before .before .before .before .before .record-at .ensures .0))
 
 pub solve-row-spec : {M : Type 1} → statement M
 solve-row-spec =

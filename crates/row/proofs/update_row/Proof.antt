@@ -3,7 +3,7 @@ use borrow.Author.Needs.{needs}
 use native.Mathlib.Omega.{arith}
 use Rattle.row.proofs.ByKind.{long-row, room-4, room-5, update-3, update-4, kept-5, renewed-5}
 use Rattle.stored.specs.Phases.{updateRow}
-use Rattle.row.proofs.InFrame.{wide-of, lent-is, lent-wide, put-back}
+use Rattle.row.proofs.InFrame.{wide-of, written-of, lent-is, lent-wide, put-back, written-back}
 use Rattle.row.proofs.update_row.Statement.{statement}
 use Rattle.row.proofs.update_row.Tie as tie
 
@@ -14,7 +14,7 @@ get-u16-requires : tie.Need-get-u16-requires
 get-u16-requires c κs = omega (arith, long-row _ _ (wide-of (c .before .before .before .pre) (c .record-at .ensures)))
 
 begun-requires : tie.Need-begun-requires
-begun-requires c κs = long-row _ _ (wide-of (c .before .before .before .before .before .pre) (c .before .before .record-at .ensures))
+begun-requires c κs = (long-row _ _ (wide-of (c .before .before .before .before .before .pre) (c .before .before .record-at .ensures)), written-of (c .before .before .before .before .before .pre) (c .before .before .record-at .ensures))
 
 sub-put-begun : tie.Need-sub-put-begun
 sub-put-begun c = search needs
@@ -32,10 +32,10 @@ same-length : tie.Need-same-length
 same-length c = search needs
 
 returns : tie.Need-returns
-returns c = put-back (c .before .before .before .before .before .before .before .before .before .before .pre) (c .before .before .before .before .before .before .before .record-at .ensures) (updateRow _ _) (update-3 (lent-is (c .before .before .before .before .before .before .before .before .before .before .pre) (c .before .before .before .before .before .before .before .record-at .ensures)) (c .before .before .before .before .before .before .get-u16 .ensures) _ _ (c .before .before .before .before .before .if1 .taken) (c .before .before .before .before .begun .ensures) (c .before .before .put-begun .ensures))
+returns c = let x = update-3 (lent-is (c .before .before .before .before .before .before .before .before .before .before .pre) (c .before .before .before .before .before .before .before .record-at .ensures)) (c .before .before .before .before .before .before .get-u16 .ensures) _ _ (c .before .before .before .before .before .if1 .taken) (c .before .before .before .before .begun .ensures) (c .before .before .put-begun .ensures .0) in (put-back (c .before .before .before .before .before .before .before .before .before .before .pre) (c .before .before .before .before .before .before .before .record-at .ensures) (updateRow _ _) x, written-back (c .before .before .before .before .before .before .before .before .before .before .pre) (c .before .before .before .before .before .before .before .record-at .ensures) (updateRow _ _) x (c .before .before .put-begun .ensures .1))
 
 updated-requires : tie.Need-updated-requires
-updated-requires c κs = room-4 _ _ _ (c .before .before .get-u16 .ensures) (c .before .if1 .left) (c .if2 .taken) (wide-of (c .before .before .before .before .before .before .pre) (c .before .before .before .record-at .ensures))
+updated-requires c κs = (room-4 _ _ _ (c .before .before .get-u16 .ensures) (c .before .if1 .left) (c .if2 .taken) (wide-of (c .before .before .before .before .before .before .pre) (c .before .before .before .record-at .ensures)), written-of (c .before .before .before .before .before .before .pre) (c .before .before .before .record-at .ensures))
 
 sub-put-updated : tie.Need-sub-put-updated
 sub-put-updated c = search needs
@@ -53,13 +53,13 @@ same-length-2 : tie.Need-same-length-2
 same-length-2 c = search needs
 
 returns-2 : tie.Need-returns-2
-returns-2 c = put-back (c .before .before .before .before .before .before .before .before .before .before .before .pre) (c .before .before .before .before .before .before .before .before .record-at .ensures) (updateRow _ _) (update-4 (lent-is (c .before .before .before .before .before .before .before .before .before .before .before .pre) (c .before .before .before .before .before .before .before .before .record-at .ensures)) (c .before .before .before .before .before .before .before .get-u16 .ensures) _ _ (c .before .before .before .before .before .before .if1 .left) (c .before .before .before .before .before .if2 .taken) (c .before .before .before .before .updated .ensures) (c .before .before .put-updated .ensures))
+returns-2 c = let x = update-4 (lent-is (c .before .before .before .before .before .before .before .before .before .before .before .pre) (c .before .before .before .before .before .before .before .before .record-at .ensures)) (c .before .before .before .before .before .before .before .get-u16 .ensures) _ _ (c .before .before .before .before .before .before .if1 .left) (c .before .before .before .before .before .if2 .taken) (c .before .before .before .before .updated .ensures) (c .before .before .put-updated .ensures .0) in (put-back (c .before .before .before .before .before .before .before .before .before .before .before .pre) (c .before .before .before .before .before .before .before .before .record-at .ensures) (updateRow _ _) x, written-back (c .before .before .before .before .before .before .before .before .before .before .before .pre) (c .before .before .before .before .before .before .before .before .record-at .ensures) (updateRow _ _) x (c .before .before .put-updated .ensures .1))
 
 updated-requires-2 : tie.Need-updated-requires-2
-updated-requires-2 c κs = room-5 _ _ _ (c .before .before .get-u16 .ensures) (c .before .if1 .left) (c .if2 .left) (wide-of (c .before .before .before .before .before .before .pre) (c .before .before .before .record-at .ensures))
+updated-requires-2 c κs = (room-5 _ _ _ (c .before .before .get-u16 .ensures) (c .before .if1 .left) (c .if2 .left) (wide-of (c .before .before .before .before .before .before .pre) (c .before .before .before .record-at .ensures)), written-of (c .before .before .before .before .before .before .pre) (c .before .before .before .record-at .ensures))
 
 is-kept-requires : tie.Need-is-kept-requires
-is-kept-requires c κs = room-5 _ _ _ (c .before .before .before .get-u16 .ensures) (c .before .before .if1 .left) (c .before .if2 .left) (wide-of (c .before .before .before .before .before .before .before .pre) (c .before .before .before .before .record-at .ensures))
+is-kept-requires c κs = (room-5 _ _ _ (c .before .before .before .get-u16 .ensures) (c .before .before .if1 .left) (c .before .if2 .left) (wide-of (c .before .before .before .before .before .before .before .pre) (c .before .before .before .before .record-at .ensures)), written-of (c .before .before .before .before .before .before .before .pre) (c .before .before .before .before .record-at .ensures))
 
 sub-put-kept : tie.Need-sub-put-kept
 sub-put-kept c = search needs
@@ -77,10 +77,10 @@ same-length-3 : tie.Need-same-length-3
 same-length-3 c = search needs
 
 returns-3 : tie.Need-returns-3
-returns-3 c = put-back (c .before .before .before .before .before .before .before .before .before .before .before .before .before .pre) (c .before .before .before .before .before .before .before .before .before .before .record-at .ensures) (updateRow _ _) (kept-5 (lent-is (c .before .before .before .before .before .before .before .before .before .before .before .before .before .pre) (c .before .before .before .before .before .before .before .before .before .before .record-at .ensures)) (c .before .before .before .before .before .before .before .before .before .get-u16 .ensures) _ _ (c .before .before .before .before .before .before .before .before .if1 .left) (c .before .before .before .before .before .before .before .if2 .left) (c .before .before .before .before .before .before .updated2 .ensures) (c .before .before .before .before .before .is-kept .ensures) (c .before .before .before .before .if3 .taken) (c .before .before .put-kept .ensures))
+returns-3 c = let x = kept-5 (lent-is (c .before .before .before .before .before .before .before .before .before .before .before .before .before .pre) (c .before .before .before .before .before .before .before .before .before .before .record-at .ensures)) (c .before .before .before .before .before .before .before .before .before .get-u16 .ensures) _ _ (c .before .before .before .before .before .before .before .before .if1 .left) (c .before .before .before .before .before .before .before .if2 .left) (c .before .before .before .before .before .before .updated2 .ensures) (c .before .before .before .before .before .is-kept .ensures) (c .before .before .before .before .if3 .taken) (c .before .before .put-kept .ensures .0) in (put-back (c .before .before .before .before .before .before .before .before .before .before .before .before .before .pre) (c .before .before .before .before .before .before .before .before .before .before .record-at .ensures) (updateRow _ _) x, written-back (c .before .before .before .before .before .before .before .before .before .before .before .before .before .pre) (c .before .before .before .before .before .before .before .before .before .before .record-at .ensures) (updateRow _ _) x (c .before .before .put-kept .ensures .1))
 
 renewed-requires : tie.Need-renewed-requires
-renewed-requires c κs = room-5 _ _ _ (c .before .before .before .before .before .get-u16 .ensures) (c .before .before .before .before .if1 .left) (c .before .before .before .if2 .left) (wide-of (c .before .before .before .before .before .before .before .before .before .pre) (c .before .before .before .before .before .before .record-at .ensures))
+renewed-requires c κs = (room-5 _ _ _ (c .before .before .before .before .before .get-u16 .ensures) (c .before .before .before .before .if1 .left) (c .before .before .before .if2 .left) (wide-of (c .before .before .before .before .before .before .before .before .before .pre) (c .before .before .before .before .before .before .record-at .ensures)), written-of (c .before .before .before .before .before .before .before .before .before .pre) (c .before .before .before .before .before .before .record-at .ensures))
 
 sub-put-renewed : tie.Need-sub-put-renewed
 sub-put-renewed c = search needs
@@ -98,7 +98,7 @@ same-length-4 : tie.Need-same-length-4
 same-length-4 c = search needs
 
 returns-4 : tie.Need-returns-4
-returns-4 c = put-back (c .before .before .before .before .before .before .before .before .before .before .before .before .before .before .pre) (c .before .before .before .before .before .before .before .before .before .before .before .record-at .ensures) (updateRow _ _) (renewed-5 (lent-is (c .before .before .before .before .before .before .before .before .before .before .before .before .before .before .pre) (c .before .before .before .before .before .before .before .before .before .before .before .record-at .ensures)) (c .before .before .before .before .before .before .before .before .before .before .get-u16 .ensures) _ _ (c .before .before .before .before .before .before .before .before .before .if1 .left) (c .before .before .before .before .before .before .before .before .if2 .left) (c .before .before .before .before .before .before .before .updated2 .ensures) (c .before .before .before .before .before .before .is-kept .ensures) (c .before .before .before .before .before .if3 .left) (c .before .before .before .before .renewed .ensures) (c .before .before .put-renewed .ensures))
+returns-4 c = let x = renewed-5 (lent-is (c .before .before .before .before .before .before .before .before .before .before .before .before .before .before .pre) (c .before .before .before .before .before .before .before .before .before .before .before .record-at .ensures)) (c .before .before .before .before .before .before .before .before .before .before .get-u16 .ensures) _ _ (c .before .before .before .before .before .before .before .before .before .if1 .left) (c .before .before .before .before .before .before .before .before .if2 .left) (c .before .before .before .before .before .before .before .updated2 .ensures) (c .before .before .before .before .before .before .is-kept .ensures) (c .before .before .before .before .before .if3 .left) (c .before .before .before .before .renewed .ensures) (c .before .before .put-renewed .ensures .0) in (put-back (c .before .before .before .before .before .before .before .before .before .before .before .before .before .before .pre) (c .before .before .before .before .before .before .before .before .before .before .before .record-at .ensures) (updateRow _ _) x, written-back (c .before .before .before .before .before .before .before .before .before .before .before .before .before .before .pre) (c .before .before .before .before .before .before .before .before .before .before .before .record-at .ensures) (updateRow _ _) x (c .before .before .put-renewed .ensures .1))
 
 pub update-row-spec : {M : Type 1} → statement M
 update-row-spec =

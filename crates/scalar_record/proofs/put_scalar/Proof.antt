@@ -1,5 +1,6 @@
 -- `scalar_record::put_scalar` meets its contract. Its calls are the definition's. Assumes nothing.
 use borrow.Author.Needs.{needs}
+use native.Mathlib.Omega.{arith}
 use Rattle.stored.specs.Put.{putScalar}
 use Rattle.scalar_record.proofs.put_scalar.Statement.{statement}
 use Rattle.scalar_record.proofs.put_scalar.Tie as tie
@@ -18,7 +19,10 @@ same-length c = search needs
 
 returns : tie.Need-returns
 unfolding putScalar
-returns c = cc
+returns c = (
+  cc,
+  λ w. c .before .before .put-response .ensures .1 (c .before .before .before .before .before .before .put-four2 .ensures .1 (omega arith) (omega arith) (c .before .before .before .before .before .before .before .before .before .before .put-four .ensures .1 (omega arith) (omega arith) w)),
+)
 
 pub put-scalar-spec : {M : Type 1} → statement M
 put-scalar-spec =

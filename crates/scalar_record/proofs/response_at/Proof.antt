@@ -4,20 +4,20 @@ use Rattle.stored.specs.Read.{responseAt}
 use Rattle.scalar_record.proofs.response_at.Statement.{statement}
 use Rattle.scalar_record.proofs.response_at.Tie as tie
 
-get-f32-requires : tie.Need-get-f32-requires
-get-f32-requires c κs = search needs
+f32-at-requires : tie.Need-f32-at-requires
+f32-at-requires c κs = search needs
 
-get-f32-requires-2 : tie.Need-get-f32-requires-2
-get-f32-requires-2 c κs = search needs
+f32-at-requires-2 : tie.Need-f32-at-requires-2
+f32-at-requires-2 c κs = search needs
 
-get-f32-requires-3 : tie.Need-get-f32-requires-3
-get-f32-requires-3 c κs = search needs
+f32-at-requires-3 : tie.Need-f32-at-requires-3
+f32-at-requires-3 c κs = search needs
 
-get-f32-requires-4 : tie.Need-get-f32-requires-4
-get-f32-requires-4 c κs = search needs
+f32-at-requires-4 : tie.Need-f32-at-requires-4
+f32-at-requires-4 c κs = search needs
 
-get-f32-requires-5 : tie.Need-get-f32-requires-5
-get-f32-requires-5 c κs = search needs
+f32-at-requires-5 : tie.Need-f32-at-requires-5
+f32-at-requires-5 c κs = search needs
 
 returns : tie.Need-returns
 unfolding responseAt
@@ -27,9 +27,9 @@ pub response-at-spec : {M : Type 1} → statement M
 response-at-spec =
     tie.close
     (tie.spec
-    get-f32-requires
-    get-f32-requires-2
-    get-f32-requires-3
-    get-f32-requires-4
-    get-f32-requires-5
+    f32-at-requires
+    f32-at-requires-2
+    f32-at-requires-3
+    f32-at-requires-4
+    f32-at-requires-5
     returns)

@@ -19,7 +19,7 @@ same-length : tie.Need-same-length
 same-length c = search needs
 
 returns : tie.Need-returns
-returns c = updated-apart _ _ (c .before .before .before .before .before .before .before .pre .0 .0) _ (c .before .before .before .before .before .before .before .pre .1) _ _ _ (c .before .before .before .before .positions .ensures) (c .before .before .update-row .ensures)
+returns c = updated-apart _ _ (c .before .before .before .before .before .before .before .pre .0 .0) _ (c .before .before .before .before .before .before .before .pre .1) _ _ _ (c .before .before .before .before .positions .ensures) (c .before .before .update-row .ensures .0) (c .before .before .update-row .ensures .1)
 
 pub update-at-spec : {M : Type 1} → statement M
 update-at-spec =

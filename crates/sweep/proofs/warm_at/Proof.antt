@@ -23,7 +23,7 @@ same-length c = search needs
 returns : tie.Need-returns
 returns c =
     let p = c .before .before .before .before .before .before .before .pre in (
-      warmed-apart _ _ (p .0 .0) _ (p .1) (p .0 .1) _ (omega (arith, room-apart _ _ (p .0 .0) .points)) _ _ (c .take .ensures) _ (c .before .before .before .before .warm-row .ensures .0) (c .before .before .before .before .warm-row .ensures .1),
+      warmed-apart _ _ (p .0 .0) _ (p .1) (p .0 .1) _ (omega (arith, room-apart _ _ (p .0 .0) .points)) _ _ (c .take .ensures) _ (c .before .before .before .before .warm-row .ensures .0 .0) (c .before .before .before .before .warm-row .ensures .1) (c .before .before .before .before .warm-row .ensures .0 .1),
       subst Fit (sym (c .take .ensures)) (fit-lost _ _ _ _ (p .0 .1)),
     )
 

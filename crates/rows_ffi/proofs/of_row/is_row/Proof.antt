@@ -1,36 +1,33 @@
--- `rows_ffi::of_row::is_row` meets its contract, by whether a kind can be read. Assumes nothing.
-use mathlib.Core.Path.{refl}
-use borrow.Author.Tests.{le-leb}
-use Rattle.rows_ffi.specs.Record.{isRow}
-use Rattle.rows_ffi.proofs.Alone.{short}
+-- `rows_ffi::of_row::is_row` meets its contract. Assumes nothing.
+use native.Mathlib.Omega.{arith}
+use mathlib.Core.Path.{refl, sym, _∙_}
 use borrow.Author.Needs.{needs}
+use Rattle.row.proofs.ByKind.{long-row}
+use Rattle.rows_ffi.specs.Record.{isRow}
+use Rattle.rows_ffi.proofs.Alone.{tests}
 use Rattle.rows_ffi.proofs.of_row.is_row.Statement.{statement}
 use Rattle.rows_ffi.proofs.of_row.is_row.Tie as tie
 
+is-record-requires : tie.Need-is-record-requires
+is-record-requires c κs = search needs
+
+sub-n : tie.Need-sub-n
+sub-n c =
+    let x = tests _ (sym (c .before .is-record .ensures) ∙ c .if1 .taken) in
+    omega (arith, x .0, long-row _ _ (x .1))
+
+all-written-requires : tie.Need-all-written-requires
+all-written-requires c κs =
+    let x = tests _ (sym (c .before .is-record .ensures) ∙ c .if1 .taken) in
+    omega (arith, x .0, long-row _ _ (x .1))
+
 returns : tie.Need-returns
-returns c = short _ (c .if1 .taken)
-
-get-u16-requires : tie.Need-get-u16-requires
-get-u16-requires c κs = search needs
-
-get-u32-requires : tie.Need-get-u32-requires
-get-u32-requires c κs = search needs
-
-cast-n : tie.Need-cast-n
-cast-n c = search needs
-
-add-n : tie.Need-add-n
-add-n c = search needs
-
-row-length-requires : tie.Need-row-length-requires
-row-length-requires c κs = search needs
+unfolding isRow
+returns c = rw (sym (c .before .before .is-record .ensures) ∙ c .before .if1 .taken) (c .all-written .ensures)
 
 returns-2 : tie.Need-returns-2
 unfolding isRow
-returns-2 c =
-    rw (le-leb 6 _ (c .before .before .before .if1 .left), c .row-length .ensures, c .before .get-u32 .ensures, c .before .before .get-u16 .ensures) refl
+returns-2 c = rw (sym (c .before .is-record .ensures) ∙ c .if1 .left) refl
 
 pub is-row-spec : {M : Type 1} → statement M
-is-row-spec =
-    tie.close
-    (tie.spec returns get-u16-requires get-u32-requires cast-n add-n row-length-requires returns-2)
+is-row-spec = tie.close (tie.spec is-record-requires sub-n all-written-requires returns returns-2)

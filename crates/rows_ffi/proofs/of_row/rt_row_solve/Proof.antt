@@ -21,7 +21,7 @@ unfolding solved solveLost lost
 returns c =
     let a = c .before .before .before .before .before .before .before .before .args in
     let is = (sym (c .before .before .before .before .before .is-row .ensures) ∙ c .before .before .before .before .if1 .taken) in
-    (rw (is, c .before .before .solve-row .ensures .1, itself _ is) refl, rw is (c .before .before .solve-row .ensures .0 ∙ alone _ is (solveRow (a .vel))))
+    (rw (is, c .before .before .solve-row .ensures .1, itself _ is) refl, rw is (c .before .before .solve-row .ensures .0 .0 ∙ alone _ is (solveRow (a .vel))))
 
 nothing-lost-requires : tie.Need-nothing-lost-requires
 nothing-lost-requires c κs = search needs

@@ -21,7 +21,7 @@ unfolding updated
 returns c =
     let a = c .before .before .before .before .before .before .before .before .args in
     let is = (sym (c .before .before .before .before .before .is-row .ensures) ∙ c .before .before .before .before .if1 .taken) in
-    (sym is, rw is (c .before .before .update-row .ensures ∙ alone _ is (updateRow (a .least) (a .held))))
+    (sym is, rw is (c .before .before .update-row .ensures .0 ∙ alone _ is (updateRow (a .least) (a .held))))
 
 same-length-2 : tie.Need-same-length-2
 same-length-2 c = search needs
