@@ -6,6 +6,7 @@ use oracle::frames::accepted;
 use oracle::layout::ROWS;
 use oracle::random::Random;
 use oracle::rattle::{all_refuse, linked};
+use oracle::words::NAN;
 
 #[test]
 fn linked_functions_agree() {
@@ -24,7 +25,8 @@ fn linked_functions_agree() {
     }
 }
 
-/// A record alone is taken. One byte less or more, another length or a kind that no row has, and it is refused and left alone.
+/// A record alone is taken. One byte less or more, another length, a kind that no row has or a NaN of another pattern than the one that is
+/// written, and it is refused and left alone.
 #[test]
 fn only_a_rows_record_is_taken() {
     let random = &mut Random::new(1, "records alone");
@@ -46,6 +48,16 @@ fn only_a_rows_record_is_taken() {
             ]
             .concat(),
         );
+        // Each float a NaN: of the pattern that is written, and of others.
+        let float =
+            |at: usize, bits: u32| [&bytes[..at], &bits.to_le_bytes(), &bytes[at + 4..]].concat();
+        for at in (30..bytes.len()).step_by(4) {
+            assert!(!all_refuse(&mut float(at, NAN)));
+            others.extend(
+                [0x7F80_0001, 0x7FFF_FFFF, 0xFF80_0001, 0xFFC0_0000, u32::MAX]
+                    .map(|bits| float(at, bits)),
+            );
+        }
         for other in others {
             let mut after = other.clone();
             assert!(all_refuse(&mut after) && after == other);
