@@ -29,8 +29,8 @@ pub fn vec3_at(b: &[u8], k: usize) -> Vec3
     }
 }
 
-// ---- read from a row's record. Its floats are as put_f32 writes them: of a NaN's patterns there is one alone. A test for that one gives what
-// is there already, so that nothing is left of it in the program, where a test for all of them costs as much as the rest of the reading.
+// ---- read from a row's record. Its floats are as put_f32 writes them: of a NaN's patterns there is one. A test for it gives what is there
+// already, so that nothing is left of it in the program, where a test for all of them costs as much as the rest of the reading.
 
 fn of_written(n: u32) -> f32
     requires { ⌜ Written n ⌝ }
