@@ -297,15 +297,17 @@ fn corotational_fields(b: &[u8], off: usize, c: u16) -> Answer
     requires { ⌜ (618 ≤ length (now b)) × (off + length (now b) < 18446744073709551616) ⌝ }
     ensures { λ r. ⌜ r ≡ firstFrom off (spec.corotationalFields (now (b .entry)) c) ⌝ }
 {
-    let caps = first(
-        cap_run(b, off, layout::ELASTIC_STRAIN_CAP, 6),
-        cap(b, off, layout::CORO_VOL_CAP),
-    );
     first(
         elastic_codes(b, off, 1),
         first(
             finite_run(b, off, layout::ROW_POS, 147),
-            first(caps, colour_from(b, off, c)),
+            first(
+                cap_run(b, off, layout::ELASTIC_STRAIN_CAP, 6),
+                first(
+                    cap(b, off, layout::CORO_VOL_CAP),
+                    colour_from(b, off, c),
+                ),
+            ),
         ),
     )
 }
