@@ -303,10 +303,7 @@ fn corotational_fields(b: &[u8], off: usize, c: u16) -> Answer
             finite_run(b, off, layout::ROW_POS, 147),
             first(
                 cap_run(b, off, layout::ELASTIC_STRAIN_CAP, 6),
-                first(
-                    cap(b, off, layout::CORO_VOL_CAP),
-                    colour_from(b, off, c),
-                ),
+                first(cap(b, off, layout::CORO_VOL_CAP), colour_from(b, off, c)),
             ),
         ),
     )
