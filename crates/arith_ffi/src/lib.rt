@@ -1,5 +1,7 @@
 // The arithmetic under names that a program in another language can call: of each function the same definition, and nothing that the caller owes.
 // A module for each crate whose functions are exported.
+#![tactic(auto)]
+
 mod of_real;
 mod of_root;
 mod of_shape;

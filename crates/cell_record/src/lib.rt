@@ -1,4 +1,6 @@
 // What both elastic rows share on the bytes of a record: the pose anew, the impulses, and both put back.
+#![tactic(auto)]
+
 ghost use Rattle.std.specs.Prelude.{◌≡◌, ◌+◌, ◌≤◌, length};
 ghost use Rattle.records.specs.Layout as at;
 ghost use Rattle.strain.specs.Matrix.{mat_vec};

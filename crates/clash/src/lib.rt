@@ -1,4 +1,6 @@
 // The clash test: in one pass, by a mark for each point.
+#![tactic(auto)]
+
 ghost use Rattle.std.specs.Prelude.{◌≡◌, [], ℕ, ◌+◌, ◌≤◌, ◌<◌, length};
 ghost use Rattle.little_endian.specs.Bytes.{le32};
 ghost use Rattle.records.specs.Answers.{first_of, Passed};
@@ -10,7 +12,7 @@ ghost use Rattle.records.specs.declared.Due as due;
 use records::{Answer, layout};
 
 // A row's colour and the ids at its four places.
-#[derive(Drop)]
+#[derive(Clone, Copy)]
 pub struct Names {
     pub colour: u16,
     pub a: u32,

@@ -1,4 +1,6 @@
 // The corotational row.
+#![tactic(auto)]
+
 pub mod block; // the warm start and the solve
 pub mod volumetric; // the update of the volumetric row
 
@@ -7,7 +9,7 @@ use vector::Four;
 
 // Corotational: what no step alters.
 #[repr(C)]
-#[derive(Drop)]
+#[derive(Clone, Copy)]
 pub struct Springs {
     pub erp_strain: [f32; 6],
     pub cfm_strain: [f32; 6],
@@ -19,7 +21,7 @@ pub struct Springs {
 
 // Corotational: the volumetric row and its coupling with the strain rows, which an update assigns.
 #[repr(C)]
-#[derive(Drop)]
+#[derive(Clone, Copy)]
 pub struct Volume {
     pub grad_vol: Four,
     pub cfm_gain_vol: f32,
@@ -30,7 +32,7 @@ pub struct Volume {
 }
 
 #[repr(C)]
-#[derive(Drop)]
+#[derive(Clone, Copy)]
 pub struct CorotationalRow {
     pub cell: Cell,
     pub pose: Pose,

@@ -1,5 +1,7 @@
 // A corotational row read from its record in its parts, each when it is used, and what each phase assigns put back into the record. An
 // update puts all of `pos`: a position that is not fetched as it was read.
+#![tactic(auto)]
+
 ghost use Rattle.std.specs.Prelude.{◌≡◌, ◌≤◌, length};
 ghost use Rattle.records.specs.Layout as at;
 ghost use Rattle.cell.specs.Cell as cell;
@@ -57,7 +59,7 @@ fn volume_anew(b: &[u8], rot: Mat3, inverted: bool, f: Mat3) -> Volume
 }
 
 // What an update assigns.
-#[derive(Drop)]
+#[derive(Clone, Copy)]
 pub struct Update {
     pub pose: Pose,
     pub volume: Volume,

@@ -4,6 +4,8 @@
 // `read` puts into a buffer and its `write` takes out of one. Their contracts, which are assumed, say how many, and no contract can say which; so that
 // `read_input` reads to the end, and that `serve` writes what `answer` laid, is seen by reading them.
 // A program has no exit status of its own: where a read or a write fails, a line on standard error says so, and the status is 0 all the same.
+#![tactic(auto)]
+
 ghost use Rattle.std.specs.Prelude.{◌≡◌, ℕ, ◌+◌, ◌-◌, ◌≤◌, length, take};
 ghost use Rattle.formrun.specs.Reading.{Within, Kept};
 ghost use Rattle.formrun.specs.Output.{output_of, refusal, decimal, Added};
@@ -12,7 +14,7 @@ ghost use Rattle.formrun.specs.Output.{output_of, refusal, decimal, Added};
 const ROOM: usize = 65537;
 
 // So many bytes, or a read that failed.
-#[derive(Drop)]
+#[derive(Clone, Copy)]
 enum Input {
     Bytes(usize),
     Failed,

@@ -1,4 +1,6 @@
 // A whole frame: check, for every list of bytes of any length.
+#![tactic(auto)]
+
 ghost use Rattle.std.specs.Prelude.{◌≡◌, ℕ, ◌≤◌, length};
 ghost use Rattle.frame.specs.Check.{check_of};
 ghost use Rattle.frame.specs.Scanned.{Scanned};
@@ -6,7 +8,7 @@ ghost use Rattle.frame.specs.Scanned.{Scanned};
 use records::{Answer, Due, layout};
 
 // The answer of some records one after another, and the place behind the last of them.
-#[derive(Drop)]
+#[derive(Clone, Copy)]
 pub struct Scan {
     pub answer: Answer,
     pub end: usize,

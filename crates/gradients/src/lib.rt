@@ -1,4 +1,6 @@
 // The error of a scalar row and its gradients, by the type of the row.
+#![tactic(auto)]
+
 pub mod dihedral; // the angle between two triangles
 pub mod gradient; // the value and the gradients of each type
 
@@ -6,7 +8,7 @@ use vector::{Four, Vec3};
 
 // A row's gradients and its error.
 #[repr(C)]
-#[derive(Drop)]
+#[derive(Clone, Copy)]
 pub struct Gradients {
     pub grad: Four,
     pub error: f32,
@@ -14,7 +16,7 @@ pub struct Gradients {
 
 // Two triangles with a common edge, from particle 0 to particle 1: the edges from particle 0, the unit normals, and the lengths that these had.
 #[repr(C)]
-#[derive(Drop)]
+#[derive(Clone, Copy)]
 pub struct Fold {
     pub p1: Vec3,
     pub p2: Vec3,

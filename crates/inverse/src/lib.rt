@@ -1,5 +1,7 @@
 // The inverse of a 6x6 matrix, column by column, by elimination with partial pivoting: in place, and only on the
 // entries that change.
+#![tactic(auto)]
+
 ghost use Rattle.std.specs.Prelude.{cond, ◌≡◌, ◌<◌, length};
 ghost use Rattle.loops.specs.Loops.{up_to};
 ghost use Rattle.strain.specs.Matrix as matrix;

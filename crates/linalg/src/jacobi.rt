@@ -4,7 +4,7 @@ ghost use Rattle.linalg.specs.Eigen as spec;
 ghost use Rattle.linalg.specs.Steps as steps;
 
 // The rotation that is due at a pair p, q: its cosine and sine. There is none where the entry is zero.
-#[derive(Drop)]
+#[derive(Clone, Copy)]
 pub(crate) struct Rotation {
     pub(crate) none: bool,
     pub(crate) c: f32,

@@ -1,4 +1,6 @@
 // Linear algebra of the soft rows, after soft_element_linalg.rs: the eigen-decomposition of a symmetric matrix, the outer product, the cofactor matrix.
+#![tactic(auto)]
+
 ghost use Rattle.std.specs.Prelude.{◌≡◌};
 ghost use Rattle.linalg.specs.Eigen as spec;
 ghost use Rattle.linalg.specs.Products as products;
@@ -9,7 +11,7 @@ mod jacobi; // the steps of a sweep
 
 // The eigenvalues, and the eigenvectors as columns.
 #[repr(C)]
-#[derive(Drop)]
+#[derive(Clone, Copy)]
 pub struct Eigen {
     pub values: Vec3,
     pub vectors: Mat3,

@@ -1,4 +1,6 @@
 // Laws on loops, lists and tables of examples, which stand in specs/. There is no code to prove here, but a crate has at least one function.
+#![tactic(auto)]
+
 ghost use Rattle.std.specs.Prelude.{◌≡◌};
 
 // The one value of its type.

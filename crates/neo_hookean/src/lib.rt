@@ -1,4 +1,6 @@
 // The neo-Hookean row.
+#![tactic(auto)]
+
 pub mod iteration; // the warm start and the solve
 pub mod renewal; // the stiffness and the block, kept or renewed
 
@@ -6,7 +8,7 @@ use cell::{Cell, Compliance, Impulses, Pose};
 
 // Neo-Hookean: what no step alters.
 #[repr(C)]
-#[derive(Drop)]
+#[derive(Clone, Copy)]
 pub struct Material {
     pub dt: f32,
     pub mu: f32,
@@ -16,7 +18,7 @@ pub struct Material {
 
 // Neo-Hookean: what an update assigns. The strain is the one that `m` and the block's inverse were computed at.
 #[repr(C)]
-#[derive(Drop)]
+#[derive(Clone, Copy)]
 pub struct Stiffness {
     pub stiffness_strain: [f32; 6],
     pub m: [f32; 36],
@@ -24,7 +26,7 @@ pub struct Stiffness {
 }
 
 #[repr(C)]
-#[derive(Drop)]
+#[derive(Clone, Copy)]
 pub struct NeoHookeanRow {
     pub cell: Cell,
     pub pose: Pose,
@@ -36,7 +38,7 @@ pub struct NeoHookeanRow {
 
 // The stiffness and the block's inverse, renewed.
 #[repr(C)]
-#[derive(Drop)]
+#[derive(Clone, Copy)]
 pub struct Block {
     pub stiffness: Stiffness,
     pub compliance: Compliance,

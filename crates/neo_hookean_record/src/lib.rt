@@ -1,5 +1,7 @@
 // A neo-Hookean row read from its record in its parts, each when it is used, and what each phase assigns put back into the record. An
 // update puts all of `pos`: a position that is not fetched as it was read.
+#![tactic(auto)]
+
 ghost use Rattle.std.specs.Prelude.{◌≡◌, ◌≤◌, length};
 ghost use Rattle.records.specs.Layout as at;
 ghost use Rattle.neo_hookean.specs.NeoHookean.{is_fresh};
@@ -53,7 +55,7 @@ fn material_of(b: &[u8]) -> Material
 }
 
 // What an update finds. The block is renewed after a move, and otherwise neither read nor written.
-#[derive(Drop)]
+#[derive(Clone, Copy)]
 pub struct Update {
     pub pose: Pose,
     pub energy: Energy,

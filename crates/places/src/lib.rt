@@ -1,4 +1,6 @@
 // The four places of a row: their ids, what each holds, and their inverse masses.
+#![tactic(auto)]
+
 ghost use Rattle.std.specs.Prelude.{cond, ◌≡◌};
 ghost use Rattle.places.specs.Places as spec;
 
@@ -6,14 +8,14 @@ use vector::{Four, Vec3};
 
 // What a place holds: a position or a velocity. A place that is not named (its id is 0xFFFFFFFF, or it lies past a scalar row's count) is skipped.
 #[repr(C)]
-#[derive(Drop)]
+#[derive(Clone, Copy)]
 pub struct Held {
     pub named: bool,
     pub value: Vec3,
 }
 
 #[repr(C)]
-#[derive(Drop)]
+#[derive(Clone, Copy)]
 pub struct Holds {
     pub a: Held,
     pub b: Held,
@@ -23,7 +25,7 @@ pub struct Holds {
 
 // The ids of the four places.
 #[repr(C)]
-#[derive(Drop)]
+#[derive(Clone, Copy)]
 pub struct Ids {
     pub a: u32,
     pub b: u32,
@@ -33,7 +35,7 @@ pub struct Ids {
 
 // The inverse masses of the four places.
 #[repr(C)]
-#[derive(Drop)]
+#[derive(Clone, Copy)]
 pub struct Masses {
     pub a: f32,
     pub b: f32,

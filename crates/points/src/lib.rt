@@ -1,5 +1,7 @@
 // Points in a frame: fetching what the places of a row hold, and taking from them. The velocities are set apart for the time of the sweeps.
 // This crate alone knows where a point lies.
+#![tactic(auto)]
+
 ghost use Rattle.std.specs.Prelude.{◌≡◌, ℕ, ◌+◌, ◌*◌, ◌≤◌, ◌<◌, length};
 ghost use Rattle.floats.specs.Fields.{vec3_at};
 ghost use Rattle.stored.specs.Points.{position};

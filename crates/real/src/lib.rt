@@ -1,4 +1,6 @@
 // Functions of one or two f32 that Rust has as methods, with the arithmetic of document 01, and the source's `inv`.
+#![tactic(auto)]
+
 ghost use Rattle.std.specs.Prelude.{◌≡◌, cond};
 ghost use Rattle.std.specs.Float.Ieee.{is_nan};
 ghost use Rattle.real.specs.Real as spec;
@@ -68,7 +70,7 @@ pub fn inv(x: f32) -> f32
 
 // A sine and a cosine of one angle.
 #[repr(C)]
-#[derive(Drop)]
+#[derive(Clone, Copy)]
 pub struct SinCos {
     pub s: f32,
     pub c: f32,

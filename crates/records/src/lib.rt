@@ -1,4 +1,6 @@
 // One record of a frame: what is due, and the tests of its fields.
+#![tactic(auto)]
+
 ghost use Rattle.std.specs.Prelude.{◌≡◌, ◌||◌, ℕ, ◌+◌, ◌*◌, ◌≤◌, ◌<◌, length};
 ghost use Rattle.records.specs.AllFinite.{all_finite};
 ghost use Rattle.records.specs.Answers.{refuse_if, first_of, first_from, ◌or_else◌};
@@ -11,14 +13,14 @@ pub mod layout;
 
 // What check and run answer: a number of document 01's table, and a byte's offset in the frame.
 #[repr(C)]
-#[derive(Drop)]
+#[derive(Clone, Copy)]
 pub struct Answer {
     pub number: u32,
     pub place: u64,
 }
 
 // What may stand at a place of the frame.
-#[derive(Drop)]
+#[derive(Clone, Copy)]
 pub enum Due {
     Head,
     Point,

@@ -5,7 +5,7 @@ ghost use Rattle.replay.specs.Tallies.{plus};
 ghost use Rattle.replay.specs.Words.{words_at};
 
 // How many records were replayed, and of how many the answer differs from what was stored.
-#[derive(Drop)]
+#[derive(Clone, Copy)]
 pub struct Tally {
     pub records: u64,
     pub differ: u64,

@@ -1,5 +1,7 @@
 // What the programs share that replay the oracle's stored answers: the records of a file, the values in a record's words, the comparison of an answer with
 // the words that were stored, and the lines that are written. A record is input words and then the answer's, at most 400 of them.
+#![tactic(auto)]
+
 mod file; // reading a file, and reporting on it
 mod stored; // whether an answer is what was stored
 

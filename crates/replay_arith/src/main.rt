@@ -1,5 +1,7 @@
 // Replays the oracle's stored answers to the arithmetic through the proved functions, and writes for each of them how many answers differ. How data/ was
 // made is in oracle/README.md, "Inputs and vectors", and what its words are in "The table".
+#![tactic(auto)]
+
 mod of_matrix;
 mod of_real;
 mod of_shape;
@@ -18,7 +20,7 @@ use of_vector::Vector;
 use replay::Tally;
 
 // A function of the arithmetic, by the module that calls it.
-#[derive(Drop)]
+#[derive(Clone, Copy)]
 enum Function {
     Real(Real),
     Vector(Vector),

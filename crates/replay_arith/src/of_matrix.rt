@@ -7,7 +7,7 @@ use crate::{Function, replay_file};
 use replay::{Tally, float, float_is, mat3, mat3_is, quat, quat_is, vec3, vec3_is};
 use vector::{matrix, quaternion};
 
-#[derive(Drop)]
+#[derive(Clone, Copy)]
 pub(crate) enum Matrix {
     MulVec,
     MulMat,

@@ -7,7 +7,7 @@ use crate::{Function, replay_file};
 use real::SinCos;
 use replay::{Tally, float, float_is};
 
-#[derive(Drop)]
+#[derive(Clone, Copy)]
 pub(crate) enum Real {
     Root,
     SinCos,

@@ -8,7 +8,7 @@ use linalg::Eigen;
 use replay::{Tally, float_is, four, four_are, mat3, mat3_is, quat, quat_is, vec3, vec3_is};
 use shape::{cell, rotation};
 
-#[derive(Drop)]
+#[derive(Clone, Copy)]
 pub(crate) enum Shape {
     SymmetricEigen,
     Cofactor,

@@ -6,7 +6,7 @@ ghost use Rattle.replay_arith.specs.OfStrain as spec;
 use crate::{Function, replay_file};
 use replay::{Tally, flat, flat_is, float, float_is, six, six_is};
 
-#[derive(Drop)]
+#[derive(Clone, Copy)]
 pub(crate) enum Strain {
     Add6,
     Sub6,

@@ -6,7 +6,7 @@ ghost use Rattle.replay_arith.specs.OfVector as spec;
 use crate::{Function, replay_file};
 use replay::{Tally, float, float_is, vec3, vec3_is};
 
-#[derive(Drop)]
+#[derive(Clone, Copy)]
 pub(crate) enum Vector {
     Dot,
     Cross,

@@ -1,5 +1,7 @@
 // Replays stored frames, good and damaged, and compares check's number and place with those stored. The file `frames` is written by generate.py,
 // which says how it is laid out.
+#![tactic(auto)]
+
 ghost use Rattle.std.specs.Prelude.{◌≡◌};
 ghost use Rattle.replay_frames.specs.Entries as spec;
 
@@ -17,7 +19,7 @@ fn main() {
 }
 
 // How many entries were tried, and how many of them check answered otherwise.
-#[derive(Drop)]
+#[derive(Clone, Copy)]
 struct Count {
     tried: u32,
     wrong: u32,

@@ -2,6 +2,8 @@
 // afterwards must be those stored. The file `runs` holds the frames one behind the other: the frame's length, the number and the place,
 // each a u32, then the frame, and then the frame afterwards. There are whole samples, and small frames that together take every branch of
 // the row functions; the oracle's command `run_vectors` writes it.
+#![tactic(auto)]
+
 ghost use Rattle.std.specs.Prelude.{◌≡◌, false, ◌≤◌, length};
 ghost use Rattle.replay_runs.specs.Entries as spec;
 
@@ -30,7 +32,7 @@ fn report(tried: u32, wrong: u32) {
 }
 
 // How many frames were run, and how many of them ended otherwise.
-#[derive(Drop)]
+#[derive(Clone, Copy)]
 struct Count {
     tried: u32,
     wrong: u32,

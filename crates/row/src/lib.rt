@@ -1,4 +1,6 @@
 // One row in its frame, by its kind: 3 scalar, 4 corotational, 5 neo-Hookean.
+#![tactic(auto)]
+
 ghost use Rattle.std.specs.Prelude.{◌≡◌, ℕ, ◌≤◌, length};
 ghost use Rattle.little_endian.specs.Bytes.{le16};
 ghost use Rattle.rows.specs.Row as rows;

@@ -1,5 +1,7 @@
 // The row functions under names that a program in another language can call: of each function the same definition, and nothing that the
 // caller owes. A row's phases go on the bytes of its record, as they ship; beside them stands what they are made of.
+#![tactic(auto)]
+
 mod of_cell;
 mod of_energy;
 mod of_gradients;
@@ -9,7 +11,7 @@ use vector::Four;
 
 // What each place is to lose, where the bytes are a row's record; zeros otherwise.
 #[repr(C)]
-#[derive(Drop)]
+#[derive(Clone, Copy)]
 pub struct Lost {
     pub done: bool,
     pub loss: Four,

@@ -1,4 +1,6 @@
 // THE RUN of a whole frame, in place. A frame is run or refused, whatever its length and content.
+#![tactic(auto)]
+
 ghost use Rattle.std.specs.Prelude.{◌≡◌, ℕ, ◌≤◌, length};
 ghost use Rattle.frame.specs.Check.{check_of};
 ghost use Rattle.stored.specs.Run.{answers, leaves};

@@ -1,5 +1,7 @@
 // The scalar row of soft_scalar_constraint.rs: its update, its warm start, its solve and the test for strain. No row function sees a frame: what the row's
 // places hold goes in, and what each is to lose comes out.
+#![tactic(auto)]
+
 ghost use Rattle.std.specs.Prelude.{◌≡◌};
 ghost use Rattle.scalar.specs.Row as spec;
 
@@ -9,7 +11,7 @@ use vector::{Four, Vec3, dot, scale};
 
 // What no step alters.
 #[repr(C)]
-#[derive(Drop)]
+#[derive(Clone, Copy)]
 pub struct Spring {
     pub rest: f32,
     pub erp_inv_dt: f32,
@@ -20,7 +22,7 @@ pub struct Spring {
 
 // What the steps assign.
 #[repr(C)]
-#[derive(Drop)]
+#[derive(Clone, Copy)]
 pub struct Response {
     pub inv_lhs: f32,
     pub cfm_gain: f32,
@@ -31,7 +33,7 @@ pub struct Response {
 
 // `kind` is 0 distance, 1 dihedral, 2 cell volume.
 #[repr(C)]
-#[derive(Drop)]
+#[derive(Clone, Copy)]
 pub struct SoftScalarConstraint {
     pub kind: u32,
     pub count: u32,
@@ -44,7 +46,7 @@ pub struct SoftScalarConstraint {
 
 // The row anew, and what each place is to lose.
 #[repr(C)]
-#[derive(Drop)]
+#[derive(Clone, Copy)]
 pub struct Solved {
     pub row: SoftScalarConstraint,
     pub loss: Four,

@@ -1,6 +1,8 @@
 // A scalar row read from its record, its phases on the row as a struct, and what each phase assigns put back into the record. An update
 // puts the rest of `pos` and `grad` with them, as it was read: a position that is not fetched, a gradient that a distance row does not
 // assign.
+#![tactic(auto)]
+
 ghost use Rattle.std.specs.Prelude.{◌≡◌, ◌≤◌, length};
 ghost use Rattle.records.specs.Layout as at;
 ghost use Rattle.scalar.specs.Row as s;

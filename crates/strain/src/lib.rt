@@ -1,4 +1,6 @@
 // Six-vectors and 6x6 matrices as flat arrays, a matrix column by column: entry (i, j) stands at j * 6 + i.
+#![tactic(auto)]
+
 ghost use Rattle.std.specs.Prelude.{◌≡◌, ◌<◌};
 ghost use Rattle.strain.specs.Columns as columns;
 ghost use Rattle.strain.specs.Matrix as matrix;

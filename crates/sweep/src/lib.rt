@@ -1,4 +1,6 @@
 // One row's step in a frame, and the sweeps: the rows in listed order, with the place of the next one carried along.
+#![tactic(auto)]
+
 ghost use Rattle.std.specs.Prelude.{◌≡◌, Bool, true, false, ℕ, ◌+◌, ◌≤◌, length};
 ghost use Rattle.little_endian.specs.Bytes.{le16};
 ghost use Rattle.records.specs.Records.{record_length, record_at};
@@ -12,7 +14,7 @@ use records::layout;
 
 // What a sweep does with each row: an update and a warm start where they are on, and the solve. A resweep passes over the rows that are not
 // strained, and has neither on.
-#[derive(Drop)]
+#[derive(Clone, Copy)]
 pub struct Turn {
     pub resweep: bool,
     pub update: bool,

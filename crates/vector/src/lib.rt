@@ -1,4 +1,6 @@
 // Vectors here, 3x3 matrices and quaternions in modules: structs of floats, by value. The order of operations is document 01's.
+#![tactic(auto)]
+
 pub mod matrix; // 3x3 matrices by columns
 pub mod quaternion; // rotations
 
@@ -6,7 +8,7 @@ ghost use Rattle.std.specs.Prelude.{◌≡◌};
 ghost use Rattle.vector.specs.Vector as spec;
 
 #[repr(C)]
-#[derive(Drop)]
+#[derive(Clone, Copy)]
 pub struct Vec3 {
     pub x: f32,
     pub y: f32,
@@ -15,7 +17,7 @@ pub struct Vec3 {
 
 // A vector for each of the four particles that a row can name, particle 0 first.
 #[repr(C)]
-#[derive(Drop)]
+#[derive(Clone, Copy)]
 pub struct Four {
     pub a: Vec3,
     pub b: Vec3,
@@ -25,7 +27,7 @@ pub struct Four {
 
 // Three columns.
 #[repr(C)]
-#[derive(Drop)]
+#[derive(Clone, Copy)]
 pub struct Mat3 {
     pub x: Vec3,
     pub y: Vec3,
@@ -34,7 +36,7 @@ pub struct Mat3 {
 
 // The real part is w.
 #[repr(C)]
-#[derive(Drop)]
+#[derive(Clone, Copy)]
 pub struct Quat {
     pub x: f32,
     pub y: f32,
