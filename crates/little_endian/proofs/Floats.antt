@@ -11,14 +11,14 @@ use lib.Ieee.Compare.{differs_from_itself}
 use borrow.Author.Tests.{lt-ltb, le-ltb, eq-eqb, ne_eqb}
 use Rattle.little_endian.specs.Bytes.{is_finite}
 
-is_nan : (x : Float) → is_nan x ≡ true → x ≡ nan
+is_nan_lem : (x : Float) → is_nan x ≡ true → x ≡ nan
 unfolding is_nan
-is_nan nan e = refl
-is_nan (inf s) e = let z : ◌≡◌ {A = Bool} false true = e in cc
-is_nan (fin s m d) e = let z : ◌≡◌ {A = Bool} false true = e in cc
+is_nan_lem nan e = refl
+is_nan_lem (inf s) e = let z : ◌≡◌ {A = Bool} false true = e in cc
+is_nan_lem (fin s m d) e = let z : ◌≡◌ {A = Bool} false true = e in cc
 
 pub above_nan : (n : ℕ) → 2139095040 < n % 2147483648 → of_bits binary32 n ≡ nan
-above_nan n h = is_nan _ (sym (nan_bits_is binary32 n) ∙ nan_bits_above binary32 n ∙ lt-ltb _ _ h)
+above_nan n h = is_nan_lem _ (sym (nan_bits_is binary32 n) ∙ nan_bits_above binary32 n ∙ lt-ltb _ _ h)
 
 pub not_above : (n : ℕ) → n % 2147483648 ≤ 2139095040 → T (not (nan_bits binary32 n))
 not_above n h = subst (λ (b : Bool). T (not b)) (sym (nan_bits_above binary32 n ∙ le-ltb _ _ h)) tt
@@ -60,5 +60,5 @@ pub finite_bits : (n : ℕ) → is_finite (of_bits binary32 n) ≡ ltb (n % 2147
 unfolding of_bits
 finite_bits n = of_fields_finite (leb 2147483648 n) (n % 2147483648 / 8388608) (n % 8388608) ∙ exponent n
 
-pub nan_bits : (n : ℕ) → is_nan (of_bits binary32 n) ≡ ltb 2139095040 (n % 2147483648)
-nan_bits n = sym (nan_bits_is binary32 n) ∙ nan_bits_above binary32 n
+pub nan_bits_lem : (n : ℕ) → is_nan (of_bits binary32 n) ≡ ltb 2139095040 (n % 2147483648)
+nan_bits_lem n = sym (nan_bits_is binary32 n) ∙ nan_bits_above binary32 n

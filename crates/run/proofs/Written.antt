@@ -9,7 +9,7 @@ use lib.ListN.{length}
 use lib.Ieee.{binary32, of_bits, is_nan}
 use borrow.Author.Tests.{ltb-true, ltb-false}
 use Rattle.little_endian.specs.Bytes.{le16, le32, f32_at, is_finite}
-use Rattle.little_endian.proofs.Floats.{finite_bits, nan_bits}
+use Rattle.little_endian.proofs.Floats.{finite_bits, nan_bits_lem}
 use Rattle.records.specs.declared.Due.TheVariants.{Row}
 use Rattle.records.specs.Answers.{Passed}
 use Rattle.records.specs.Fields.{finite, run}
@@ -23,7 +23,7 @@ finite_written : (n : ℕ) → is_finite (of_bits binary32 n) ≡ true → Writt
 finite_written n h a = absurd (omega (arith, a, ltb-true (n % 2147483648) 2139095040 (sym (finite_bits n) ∙ h)))
 
 no_nan_written : (n : ℕ) → is_nan (of_bits binary32 n) ≡ false → Written n
-no_nan_written n h a = absurd (omega (arith, a, ltb-false 2139095040 (n % 2147483648) (sym (nan_bits n) ∙ h)))
+no_nan_written n h a = absurd (omega (arith, a, ltb-false 2139095040 (n % 2147483648) (sym (nan_bits_lem n) ∙ h)))
 
 -- float at byte k of the n that pass
 within : (b : List ℕ) (n k : ℕ) → Passed (run (finite b) 30 n) → 30 ≤ k → k % 4 ≡ 2 → k + 4 ≤ 30 + 4 * n → Written (le32 b k)

@@ -5,7 +5,7 @@ use borrow.Author.Tests.{le-leb, lt-leb}
 use denote.Floats.{passes}
 use lib.Dec.{leb}
 use lib.Ieee.{binary32, fits, is_nan, neg, to_bits}
-use Rattle.root.specs.Floats.{is_nan, is_number}
+use Rattle.root.specs.Floats.{is_nan_lem, is_number}
 use Rattle.real.specs.Float.{f1}
 use Rattle.real.specs.Real.{signum}
 use Rattle.real.specs.Sign.{by_sign_bit}
@@ -21,7 +21,7 @@ chosen c = by_sign_bit c.before.args.x (passes (fits binary32 c.before.args.x) c
 
 returns : tie.Need-returns
 unfolding signum
-returns c = rw (is_nan c.before.args.x c.if1.true) refl
+returns c = rw (is_nan_lem c.before.args.x c.if1.true) refl
 
 float-to-bits-if2 : tie.Need-float-to-bits-if2
 float-to-bits-if2 c = passes (not (is_nan c.before.args.x)) (rw (number c) refl)
