@@ -1,0 +1,17 @@
+-- `inverse::reduce` meets its contract. The loop is the definition's. Assumes nothing.
+use borrow.Author.Rules.{rules}
+use Prim.Native.Nat.{◌-◌}
+use mathlib.Core.Path.{refl}
+use Rattle.loops.specs.Between.{went_none, went_more, went_all}
+use Rattle.inverse.specs.Elimination.{reduced}
+use Rattle.inverse.proofs.reduce.Goals as goal
+
+pub loop-i-init : goal.loop-i-init
+loop-i-init c = went_none (search rules)
+
+pub loop-i-preserved : goal.loop-i-preserved
+loop-i-preserved c = went_more c.loop-i.invariant (search rules) refl
+
+pub returns : goal.returns
+unfolding reduced
+returns c = went_all c.loop-i.invariant (search rules)

@@ -1,0 +1,40 @@
+-- `linalg::symmetric_eigen` meets its contract: what is to come of the state before each turn is what was to come of it at first, and a turn is a sweep.
+-- Assumes nothing.
+use Prim.Native.Nat.{◌-◌}
+use mathlib.Core.Path.{◌∙◌, ap}
+use mathlib.Core.Logic.{⊎_elim}
+use borrow.Author.Rules.{rules}
+use Rattle.loops.specs.Loops.{coming_none, coming_more, coming_stop, coming_end}
+use Rattle.linalg.specs.Eigen.{sweeps, eigen_of, symmetric_eigen}
+use Rattle.linalg.specs.Steps.{swept}
+use Rattle.linalg.proofs.symmetric_eigen.Goals as goal
+
+pub loop-init : goal.loop-init
+loop-init c = coming_none
+
+pub loop-preserved : goal.loop-preserved
+loop-preserved c =
+    let third = vectors in
+    let second = third in
+    let first = second in
+    let loop = first.loop in
+    coming_more loop.invariant (search rules) (cc)
+    (swept loop.a loop.v
+    first.rotation_at-g1.ensures
+    second.turn_01-a1.ensures
+    second.rotation_at-g2.ensures
+    third.turn_02-a2.ensures
+    third.rotation_at-g3.ensures
+    c.turn_12-a3.ensures
+    c.turn_vectors-v1.ensures
+    c.turn_vectors-v2.ensures
+    c.turn_vectors-v3.ensures)
+
+pub returns : goal.returns
+unfolding symmetric_eigen sweeps
+returns c =
+    let loop = c.loop in
+    c.eigen_of.ensures
+    ∙ ap eigen_of
+    (⊎_elim (λ w. coming_end loop.invariant (search rules)) (λ w. coming_stop loop.invariant (search rules) (cc))
+    c.loop-test.branch)

@@ -1,0 +1,22 @@
+-- `root::floor_root` meets its contract. Before each turn the digits above `bit` are settled (`Digits`). Assumes nothing.
+use Prim.Native.Nat.{◌-◌}
+use mathlib.Core.Path.{refl, ◌∙◌}
+use mathlib.Core.Logic.{⊎_elim}
+use borrow.Author.Rules.{rules}
+use borrow.Author.Tests.{le-leb, lt-leb}
+use Rattle.root.specs.Whole.{digits_none, digits_more, digits_all, tried_fits}
+use Rattle.root.proofs.floor_root.Goals as goal
+
+pub loop-t-init : goal.loop-t-init
+loop-t-init c = digits_none c.args.n
+
+pub overflow_mul-q : goal.overflow_mul-q
+overflow_mul-q c = record { fits = tried_fits c.loop-t.invariant (search rules) }
+
+pub loop-t-preserved : goal.loop-t-preserved
+loop-t-preserved c =
+    digits_more c.loop-t.invariant (search rules)
+    (⊎_elim (λ w. w.1 ∙ rw (le-leb _ _ w.0.taken) refl) (λ w. w.1 ∙ rw (lt-leb _ _ w.0.left) refl) c.if-q-n.branch)
+
+pub returns : goal.returns
+returns c = digits_all c.loop-t.invariant (search rules)
