@@ -81,7 +81,7 @@ module _ {R S P K : Type 0} (F : Access R S P K) (f : R → S → R × S) (L : L
             let (j, mj') = X.from_b k' p (omega arith) q w' in
             let v : F.writes (F.key (B j')) p = to k j' mj w in
             let one : ¬ (j' < k') =
-            λ l. g j (down j k' mj' w' h') (X.back k j' j k' p mj mj' v (F.Written-Read (B k') p w') l) (fro j k' mj' w') in
+            λ l. g j (down j k' mj' w' h') (X.back k j' j k' p mj mj' v (F.written_read (B k') p w') l) (fro j k' mj' w') in
             let other : ¬ (k' < j') = λ l. g' j' (up k j' mj w h) l v in
             let same : j' ≡ k' = omega arith in
             e ∙ put k k' h (subst (M k) same mj) w ∙ sym e'

@@ -14,7 +14,6 @@ loop-init c = coming_none
 
 pub loop-preserved : goal.loop-preserved
 loop-preserved c =
-    let third = vectors in
     let second = third in
     let first = second in
     let loop = first.loop in
@@ -23,8 +22,8 @@ loop-preserved c =
     first.rotation_at-g1.ensures
     second.turn_01-a1.ensures
     second.rotation_at-g2.ensures
-    third.turn_02-a2.ensures
-    third.rotation_at-g3.ensures
+    c.turn_02-a2.ensures
+    c.rotation_at-g3.ensures
     c.turn_12-a3.ensures
     c.turn_vectors-v1.ensures
     c.turn_vectors-v2.ensures

@@ -12,6 +12,5 @@ chosen a b e f g h i = rw (i, h, g, f, e) refl
 
 pub returns : goal.returns
 returns c =
-    let e = d in
-    let a = e.args in
-    chosen a.a a.b e.is_nan.ensures c.is_nan-2.ensures c.pick.ensures c.pick-2.ensures c.pick-3.ensures
+    let a = c.args in
+    chosen a.a a.b c.is_nan.ensures c.is_nan-2.ensures c.pick.ensures c.pick-2.ensures c.pick-3.ensures

@@ -13,6 +13,5 @@ called w et ea e1 e2 e3 e4 e5 e6 = rw (e6, e5, e4, e3, e2, e1, ea, et) refl
 
 pub returns : goal.returns
 returns c =
-    let e = d in
-    called e.args.w e.rem_turn.ensures e.sin_cos_small-a.ensures c.doubled.ensures c.doubled-2.ensures
+    called c.args.w c.rem_turn.ensures c.sin_cos_small-a.ensures c.doubled.ensures c.doubled-2.ensures
     c.doubled-3.ensures c.doubled-4.ensures c.doubled-5.ensures c.doubled-6.ensures

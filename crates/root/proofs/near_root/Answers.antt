@@ -5,12 +5,15 @@ use Rattle.root.proofs.near_root.Goals as goal
 
 pub returns-then-is_near : goal.returns-then-is_near
 returns-then-is_near c =
-    near_both c.args.n c.args.s c.requires.0 c.is_near.ensures c.if-is_near.true
+    let both = near_both c.args.n c.args.s c.requires.0 c.is_near.ensures c.if-is_near.true in
+    record { value = both.0; upper_bound = both.1 }
 
 pub returns-then-is_near-2 : goal.returns-then-is_near-2
 returns-then-is_near-2 c =
-    near_both c.args.n (c.args.s + 1) c.requires.0 c.is_near-2.ensures c.if-is_near-2.true
+    let both = near_both c.args.n (c.args.s + 1) c.requires.0 c.is_near-2.ensures c.if-is_near-2.true in
+    record { value = both.0; upper_bound = both.1 }
 
 pub returns-then-is_near-3 : goal.returns-then-is_near-3
 returns-then-is_near-3 c =
-    near_both c.args.n (c.args.s - 1) c.requires.0 c.is_near-then-s-gt0.ensures c.if-is_near-3.true
+    let both = near_both c.args.n (c.args.s - 1) c.requires.0 c.is_near-then-s-gt0.ensures c.if-is_near-3.true in
+    record { value = both.0; upper_bound = both.1 }

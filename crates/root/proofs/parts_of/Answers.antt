@@ -8,41 +8,40 @@ use Rattle.root.specs.Whole.{Moved, moved, moved_exact, moved_exact32}
 use borrow.Author.Rules.{rules}
 use Rattle.root.proofs.parts_of.Goals as goal
 
-digits : (c : tie.Then1) → Moved (c.before.args.b % 8388608)
-digits c = moved _ (omega arith) (omega arith)
-
 pub overflow_sub-z : goal.overflow_sub-z
-overflow_sub-z c = omega (arith, (digits c).least)
+overflow_sub-z c = omega (arith, (moved (c.args.b % 8388608) (omega arith) (omega arith)).least)
 
 pub overflow_cast-result-then-field-eq0 : goal.overflow_cast-result-then-field-eq0
-overflow_cast-result-then-field-eq0 c = record { fits = omega (arith, (digits c).most) }
+overflow_cast-result-then-field-eq0 c = record { fits = omega (arith, (moved (c.args.b % 8388608) (omega arith) (omega arith)).most) }
 
 pub overflow_shl-result : goal.overflow_shl-result
-overflow_shl-result c = omega (arith, (digits c).most)
+overflow_shl-result c = omega (arith, (moved (c.args.b % 8388608) (omega arith) (omega arith)).most)
 
 pub overflow_cast-result-then-field-eq0-2 : goal.overflow_cast-result-then-field-eq0-2
-overflow_cast-result-then-field-eq0-2 c = record { fits = omega (arith, (digits c).most) }
+overflow_cast-result-then-field-eq0-2 c = record { fits = omega (arith, (moved (c.args.b % 8388608) (omega arith) (omega arith)).most) }
 
 pub overflow_sub-result : goal.overflow_sub-result
-overflow_sub-result c = omega (arith, (digits c).most)
+overflow_sub-result c = omega (arith, (moved (c.args.b % 8388608) (omega arith) (omega arith)).most)
 
 pub overflow_shl-result-then-field-eq0 : goal.overflow_shl-result-then-field-eq0
-overflow_shl-result-then-field-eq0 c = omega (arith, (digits c).most)
+overflow_shl-result-then-field-eq0 c = omega (arith, (moved (c.args.b % 8388608) (omega arith) (omega arith)).most)
 
 pub overflow_sub-result-then-field-eq0 : goal.overflow_sub-result-then-field-eq0
-overflow_sub-result-then-field-eq0 c = omega (arith, (digits c).most)
+overflow_sub-result-then-field-eq0 c = omega (arith, (moved (c.args.b % 8388608) (omega arith) (omega arith)).most)
 
 pub overflow_add-result : goal.overflow_add-result
-overflow_add-result c = record { fits = rw (moved_exact32 (digits c)) (omega (arith, (digits c).high, (digits c).most)) }
+overflow_add-result c = record { fits = rw (moved_exact32 (moved (c.args.b % 8388608) (omega arith) (omega arith))) (omega (arith, (moved (c.args.b % 8388608) (omega arith) (omega arith)).high, (moved (c.args.b % 8388608) (omega arith) (omega arith)).most)) }
 
 pub returns-then-field-eq0 : goal.returns-then-field-eq0
 unfolding sig power
 returns-then-field-eq0 c =
-    let e = moved_exact (digits c) in (
-      (e ∙ rw (eq-eqb _ _ c.if-field-eq0.true) refl, rw (eq-eqb _ _ c.if-field-eq0.true) refl),
-      (rw e (digits c).high, omega (arith, (digits c).most), omega (arith, (digits c).least)),
-    )
+    let m = moved (c.args.b % 8388608) (omega arith) (omega arith) in
+    let e = moved_exact (moved (c.args.b % 8388608) (omega arith) (omega arith)) in
+    record {
+      sig_value = (e ∙ rw (eq-eqb _ _ c.if-field-eq0.true) refl, rw (eq-eqb _ _ c.if-field-eq0.true) refl);
+      sig_bound = (rw e m.high, omega (arith, m.most), omega (arith, m.least));
+    }
 
 pub returns : goal.returns
 unfolding sig power
-returns c = ((rw (ne_eqb _ _ c.if-field-eq0.false) refl, rw (ne_eqb _ _ c.if-field-eq0.false) refl), search rules)
+returns c = record { sig_value = (rw (ne_eqb _ _ c.if-field-eq0.false) refl, rw (ne_eqb _ _ c.if-field-eq0.false) refl); sig_bound = search rules }

@@ -8,7 +8,8 @@ pub returns : goal.returns
 unfolding root_bits
 returns c =
     let parts = c.parts_of-p in
-    let radicand = c.radicand_of in (
-      rw (← parts.ensures.0.0, ← parts.ensures.0.1, ← radicand.ensures.0, ← c.near_root-n.ensures.0) refl,
-      search rules,
-    )
+    let radicand = c.radicand_of in
+    record {
+      value = rw (← parts.ensures.sig_value.0, ← parts.ensures.sig_value.1, ← radicand.ensures.value, ← c.near_root-n.ensures.value) refl;
+      upper_bound = search rules;
+    }

@@ -15,7 +15,6 @@ called a limit e0 e1 e2 e3 e4 e5 = rw (e0, e1, e2, e3, e4, e5) refl
 
 pub returns : goal.returns
 returns c =
-    let e = d in
     let f = e in
-    called f.args.a.now f.args.limit e.abs.ensures e.abs-2.ensures c.abs-3.ensures c.abs-4.ensures
+    called f.args.a.now f.args.limit c.abs.ensures c.abs-2.ensures c.abs-3.ensures c.abs-4.ensures
     c.abs-5.ensures c.abs-6.ensures

@@ -18,8 +18,7 @@ called mu lambda strain ei ee es ej ep ef eq eu eg = rw (eg, eu, ep, eq, ef, ej,
 
 pub returns : goal.returns
 returns c =
-    let e = d in
-    let a = e.args in
-    called a.mu a.lambda a.strain.now e.identity.ensures c.strain_matrix.ensures c.add_mat-s.ensures
+    let a = c.args in
+    called a.mu a.lambda a.strain.now c.identity.ensures c.strain_matrix.ensures c.add_mat-s.ensures
     c.determinant.ensures c.scale_mat.ensures c.cofactor.ensures c.scale_mat-2.ensures c.add_mat-dual.ensures
     c.strain_rows_dual-grad.ensures

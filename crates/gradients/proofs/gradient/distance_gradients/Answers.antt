@@ -18,7 +18,6 @@ called pos grad rest ed el eq ex en eb = rw (eb, en, ex, eq, el, ed) refl
 
 pub returns : goal.returns
 returns c =
-    let e = d in
-    let a = e.args in
-    called a.pos a.grad a.rest e.sub-d.ensures e.length-len.ensures c.divide.ensures c.unit_x.ensures c.pick_vec-n.ensures
+    let a = c.args in
+    called a.pos a.grad a.rest c.sub-d.ensures c.length-len.ensures c.divide.ensures c.unit_x.ensures c.pick_vec-n.ensures
     c.neg-back.ensures

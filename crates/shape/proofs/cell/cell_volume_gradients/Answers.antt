@@ -13,6 +13,5 @@ called x ea eb ec e1 e2 e3 es et e0 = rw (e0, et, es, e1, e2, e3, ea, eb, ec) re
 
 pub returns : goal.returns
 returns c =
-    let e = d in
-    called e.args.x e.sub-a.ensures e.sub-b.ensures e.sub-c.ensures c.face_gradient-g1.ensures
+    called c.args.x c.sub-a.ensures c.sub-b.ensures c.sub-c.ensures c.face_gradient-g1.ensures
     c.face_gradient-g2.ensures c.face_gradient-g3.ensures c.add.ensures c.add-sum.ensures c.neg-g0.ensures

@@ -18,6 +18,5 @@ called a q er ed em ev eo = rw (eo, ev, em, ed, er) refl
 
 pub returns : goal.returns
 returns c =
-    let e = d in
-    let a = e.args in
-    called a.a a.q e.to_matrix-r.ensures c.dot_sum.ensures c.abs-denom.ensures c.cross_sum.ensures c.scale.ensures
+    let a = c.args in
+    called a.a a.q c.to_matrix-r.ensures c.dot_sum.ensures c.abs-denom.ensures c.cross_sum.ensures c.scale.ensures

@@ -23,8 +23,7 @@ loop-i-init c = coming_none
 pub loop-i-preserved : goal.loop-i-preserved
 unfolding next
 loop-i-preserved c =
-    let l = d in
-    coming_more l.loop-i.invariant (search rules) (tested l.args.a l.loop-i.q c.correction-o.ensures c.length-w.ensures c.if-w.false) (cc)
+    coming_more c.loop-i.invariant (search rules) (tested c.args.a c.loop-i.q c.correction-o.ensures c.length-w.ensures c.if-w.false) (cc)
 
 pub returns-after-loop-i : goal.returns-after-loop-i
 unfolding extract_rotation
@@ -33,5 +32,4 @@ returns-after-loop-i c = coming_end c.loop-i.invariant (search rules)
 pub returns-then-w : goal.returns-then-w
 unfolding extract_rotation
 returns-then-w c =
-    let l = d in
-    coming_stop l.loop-i.invariant (search rules) (tested l.args.a l.loop-i.q c.correction-o.ensures c.length-w.ensures c.if-w.true)
+    coming_stop c.loop-i.invariant (search rules) (tested c.args.a c.loop-i.q c.correction-o.ensures c.length-w.ensures c.if-w.true)
