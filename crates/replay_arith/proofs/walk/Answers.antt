@@ -8,7 +8,7 @@ pub loop-at-init : goal.loop-at-init
 loop-at-init c = begins
 
 pub loop-at-preserved : goal.loop-at-preserved
-loop-at-preserved c = again c.loop-at.invariant (search rules) (search rules) c.differs-differ.ensures.1 c.«record».ensures c.differs-differ.ensures.0
+loop-at-preserved c = again c.loop-at.invariant (search rules) (search rules) c.differs-differ.ensures.1 c.record-w.ensures c.differs-differ.ensures.0
 
 pub returns : goal.returns
 returns c = ends c.loop-at.invariant (search rules)

@@ -3,7 +3,7 @@ use Rattle.replay.specs.Tallies.{one, none}
 use Rattle.replay_arith.proofs.of_vector.all.Goals as goal
 
 pub returns : goal.returns
-returns c =
+returns g c =
     one c.replay_file-t.ensures
     (one c.replay_file-t-2.ensures
     (one c.replay_file-t-3.ensures
