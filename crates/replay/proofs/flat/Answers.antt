@@ -1,7 +1,7 @@
 -- `replay::flat` meets its contract. One float a turn. Assumes nothing.
-use Rattle.std.proofs.Common.{◌-◌, rules}
+use Rattle.std.proofs.Common.{rules}
 use Rattle.loops.specs.Fill.{filled_none, filled_more, filled_all}
-use Rattle.replay.specs.Words.{float, flat}
+use Rattle.replay.specs.Words.{flat}
 use Rattle.replay.proofs.flat.Goals as goal
 
 pub loop-i-init : goal.loop-i-init

@@ -1,6 +1,5 @@
 -- `replay_arith::walk` meets its contract. One record a turn. Assumes nothing.
 use borrow.Author.Rules.{rules}
-use Prim.Native.Nat.{◌-◌}
 use Rattle.replay.specs.Tallies.{begins, again, ends}
 use Rattle.replay_arith.proofs.walk.Goals as goal
 

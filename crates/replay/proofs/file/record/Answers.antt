@@ -1,5 +1,5 @@
 -- `replay::file::record` meets its contract. One word a turn. Assumes nothing.
-use Rattle.std.proofs.Common.{◌-◌, refl, length-set, rules}
+use Rattle.std.proofs.Common.{refl, length-set, rules}
 use Rattle.loops.specs.Loops.{ran_none, ran_more, ran_all}
 use Rattle.replay.specs.Words.{words_at}
 use Rattle.replay.proofs.file.record.Goals as goal

@@ -1,5 +1,5 @@
 -- `replay::stored::flat_is` meets its contract. One float a turn. Assumes nothing.
-use Rattle.std.proofs.Common.{◌-◌, rules}
+use Rattle.std.proofs.Common.{rules}
 use Rattle.loops.specs.Loops.{ran_none, ran_more, ran_all}
 use Rattle.replay.specs.Words.{flat_is}
 use Rattle.replay.proofs.stored.flat_is.Goals as goal
