@@ -4,5 +4,6 @@ pub mod Real
 pub mod SinCos
 pub mod Acos
 pub mod Sign
+pub mod Turn
 pub mod Laws
 pub mod Worked

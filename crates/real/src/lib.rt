@@ -1,7 +1,7 @@
 // Functions of one or two f32 that Rust has as methods, with the arithmetic of document 01, and the source's `inv`.
 #![tactic(auto)]
 
-ghost use Rattle.std.specs.Prelude.{◌≡◌, cond};
+ghost use Rattle.std.specs.Prelude.{◌≡◌, ◌*◌, ◌%◌, ◌^◌, ◌<◌, cond};
 ghost use Rattle.std.specs.Float.Ieee.{is_nan};
 ghost use Rattle.real.specs.Real as spec;
 ghost use Rattle.real.specs.SinCos as sine;
@@ -76,10 +76,39 @@ pub struct SinCos {
     pub c: f32,
 }
 
+// The remainder of s * 2 ^ k by 13176795.
+fn turned(s: u32, k: u32) -> u32
+    requires { s < 2 ^ 24 }
+    ensures { result ≡ s * 2 ^ k % 13176795 }
+{
+    let mut r = s % 13176795;
+    for i in 0..k {
+        r = r * 2 % 13176795;
+    }
+    r
+}
+
+// x % 6.2831855, by whole numbers: 6.2831855 is 13176795 / 2097152. (Compiled, `%` of an f32 is a call of the C library's fmodf, of a version that a program
+// may not find where it runs.)
 pub fn rem_turn(x: f32) -> f32
     ensures { result ≡ sine.rem_turn x }
 {
-    x % 6.2831855
+    if x != x {
+        return x;
+    }
+    let b = f32::to_bits(x);
+    let field = b % 0x8000_0000 / 8388608;
+    if field < 129 {
+        return x; // below 4
+    }
+    if field == 255 {
+        return 0.0 / 0.0; // an infinity
+    }
+    let r = turned(b % 8388608 + 8388608, field - 129) as f32;
+    if 0x8000_0000 <= b {
+        return r / -2097152.0;
+    }
+    r / 2097152.0
 }
 
 fn sin_cos_small(t: f32) -> SinCos
