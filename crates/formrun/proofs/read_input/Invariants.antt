@@ -1,10 +1,12 @@
 use mathlib.Core.Path.{◌≡◌}
 use Prim.Native.Nat.{◌-◌, ◌≤◌}
-use lib.ListN.{length}
+use lib.ListN.{length, take}
+use Rattle.std.specs.Io.KnownBytes.{Consumes}
 use Rattle.formrun.proofs.read_input.Given as goal
 
 abbrev pub invariant-loop-done : goal.invariant-loop-done
-invariant-loop-done l = (length l.initial.done ≡ length l.initial.input) × (l.input ≤ length l.initial.input)
+invariant-loop-done g l =
+    (length l.buf ≡ length l.initial.buf) × (l.done ≤ length l.buf) × Consumes (g.R.remaining l.initial.input) (g.R.remaining l.input) (take l.done l.buf)
 
 abbrev pub decreases-loop-done : goal.decreases-loop-done
-decreases-loop-done l = length l.initial.input - l.input
+decreases-loop-done g l = length l.buf - l.done
