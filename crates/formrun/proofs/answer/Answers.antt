@@ -21,8 +21,7 @@ returns-then-a-eq0 c =
     let a = c.args in
     let q = c.run-a in
     let same : length q.new.s ≡ length (take a.len a.buf.now) = q.auto.s in
-    let len : length q.new.s ≡ a.len = same ∙ length-take-le a.len a.buf.now c.requires.0 in
-    (
+    let len : length q.new.s ≡ a.len = same ∙ length-take-le a.len a.buf.now c.requires.0 in (
       omega (arith, length-append q.new.s (drop a.len a.buf.now)),
       accepted a.buf.now a.len q.result q.new.s c.requires.0 (omega (arith, c.if-len-gt65536.false)) q.ensures.0 q.ensures.1 len c.if-a-eq0.true,
     )
@@ -31,8 +30,7 @@ pub returns : goal.returns
 returns c =
     let a = c.args in
     let q = c.run-a in
-    let p = c.put_refusal in
-    (
+    let p = c.put_refusal in (
       p.ensures.within,
       refused a.buf.now a.len q.result (q.new.s ++ drop a.len a.buf.now) p.result p.new.buf c.requires.0 (omega (arith, c.if-len-gt65536.false)) q.ensures.0 c.if-a-eq0.false p.ensures,
     )

@@ -1,7 +1,7 @@
 -- `formrun::put` meets its contract: so far, the first i bytes of the text are pasted in. Assumes nothing.
 use mathlib.Core.Path.{◌≡◌, refl, sym, ap, ◌∙◌}
 use mathlib.Core.List.{List, ◌++◌}
-use Prim.Native.Nat.{ℕ, ◌+◌, ◌-◌, ◌≤◌, zero-le}
+use Prim.Native.Nat.{ℕ, ◌+◌, ◌≤◌, zero-le}
 use native.Mathlib.Numerals.{add-one}
 use native.Mathlib.Omega.{arith}
 use lib.ListN.{length, take, set, get_or, length-set}
@@ -16,7 +16,6 @@ pasted s text s' at i room same e all = record {
   holds = ap (take (at + length text)) (e ∙ ap (paste s at text) all)
       ∙ take-paste s at text (length text) (omega arith) (omega arith)
       ∙ ap (λ (l : List ℕ). take at s ++ l) (take-length text);
-
 }
 
 pub loop-i-init : goal.loop-i-init

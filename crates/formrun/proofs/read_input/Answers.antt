@@ -2,7 +2,6 @@
 use mathlib.Core.Path.{subst, sym, ap, ◌∙◌}
 use mathlib.Core.List.{List, ◌++◌}
 use Prim.Native.Nat.{ℕ}
-use native.Mathlib.Omega.{arith}
 use lib.ListN.{take, drop}
 use Rattle.std.proofs.Math.Seq.{take-add}
 use Rattle.std.proofs.KnownBytes.{Consumes-trans}
@@ -15,7 +14,9 @@ loop-done-preserved g c =
     let l = c.loop-done in
     let n = c.in_ok-n.n in
     let now = c.read_more.new.buf in
-    let both = take-add l.done n now ∙ ap (λ (s : List ℕ). s ++ take n (drop l.done now)) c.read_more.ensures.kept in
-    (search rules, search rules,
+    let both = take-add l.done n now ∙ ap (λ (s : List ℕ). s ++ take n (drop l.done now)) c.read_more.ensures.kept in (
+      search rules,
+      search rules,
       subst (Consumes (g.R.Read.remaining c.args.input.now) (g.R.Read.remaining c.read_more.new.input)) (sym both)
-      (Consumes-trans _ _ _ _ _ l.invariant.2 c.in_ok-n.ensures.bytes.0))
+          (Consumes-trans _ _ _ _ _ l.invariant.2 c.in_ok-n.ensures.bytes.0),
+    )
