@@ -14,6 +14,9 @@ ghost use Rattle.formrun.specs.Output.{output_of, refusal, decimal, Added};
 use std::io;
 use std::io::{Read, Write};
 
+// A frame has at most so many bytes.
+const MOST: usize = 65536;
+
 // One byte more than a frame may have: a buffer that is full shows that the input is too long.
 const ROOM: usize = 65537;
 
@@ -99,7 +102,7 @@ fn answer(buf: &mut [u8], len: usize) -> usize
     requires { (len ≤ length buf.old) × (65537 ≤ length buf.old) }
     ensures { (result ≤ length buf.new) × (take result buf.new ≡ output_of (take len buf.old)) }
 {
-    if 65536 < len {
+    if MOST < len {
         return put(buf, 0, b"too long\n");
     }
     let a = run::run(&mut buf[..len]);
