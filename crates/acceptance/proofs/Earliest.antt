@@ -100,7 +100,7 @@ pub has_after : (a : ℕ) (ts : List Test) (n k : ℕ) → in_turn a ts ≡ true
 unfolding Has
 has_after a [] n k p h = absurd h
 has_after a (t ∷ ts) n k p (inl h) = let x = in_turn_lem a t ts p in (omega (arith, x.0, h.1, h.2), omega (arith, x.1, h.2))
-has_after a (t ∷ ts) n k p (inr h) = let x = in_turn_lem a t ts p in let y = has_after _ ts n k x.2 h in (omega (arith, x.0, y.0), y.1)
+has_after a (t ∷ ts) n k p (inr h) = let x = in_turn_lem a t ts p in let y = has_after (turn (number_of t.refusal) t.place + 1) ts n k x.2 h in (omega (arith, x.0, y.0), y.1)
 
 -- ---- THE FIRST THAT FAILS
 

@@ -2,8 +2,6 @@
 use mathlib.Core.Path.{refl}
 use Rattle.corotational_record.proofs.put_updated.Goals as goal
 
-)
-
 pub returns : goal.returns
 returns c = (
   rw (
@@ -13,3 +11,4 @@ returns c = (
   )
       refl,
   λ w. c.put_strained.ensures.1 (c.put_volume.ensures.1 (c.put_pose.ensures.1 w)),
+)

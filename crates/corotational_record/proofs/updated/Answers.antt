@@ -6,8 +6,6 @@ use Rattle.cell_record.specs.Anew.{pos_anew, deformation_anew, posed_anew}
 use Rattle.corotational_record.specs.Parts.{volume_anew}
 use Rattle.corotational_record.proofs.updated.Goals as goal
 
-)
-
 pub returns : goal.returns
 unfolding update cell_of pose_of corotational_of pos_anew deformation_anew posed_anew volume_anew
 returns c = (
@@ -24,3 +22,4 @@ returns c = (
     c.pos_anew-pos.ensures,
   )
       refl,
+)

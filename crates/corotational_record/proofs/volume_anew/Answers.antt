@@ -3,9 +3,6 @@ use mathlib.Core.Path.{refl}
 use Rattle.corotational_record.specs.Parts.{volume_anew}
 use Rattle.corotational_record.proofs.volume_anew.Goals as goal
 
-)
-    refl
-
 pub returns : goal.returns
 unfolding volume_anew
 returns c = rw (
@@ -15,3 +12,5 @@ returns c = rw (
   c.masses_at-im.ensures,
   c.four_at-coeffs.ensures,
   c.mat3_at-inv_rest.ensures,
+)
+    refl

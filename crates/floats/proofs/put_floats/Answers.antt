@@ -7,8 +7,6 @@ use Rattle.loops.specs.Loops.{ran_none, ran_more, ran_all}
 use Rattle.floats.specs.Fields.{put_f32, put_floats}
 use Rattle.floats.proofs.put_floats.Goals as goal
 
-)
-
 pub loop-i-init : goal.loop-i-init
 loop-i-init c = (ran_none, (refl, λ g t w. w))
 
@@ -19,6 +17,7 @@ loop-i-preserved c = (
     search rules,
     λ g t w. c.put_f32.ensures.1 (omega arith) (omega arith) (c.loop-i.invariant.1.1 g t w),
   ),
+)
 
 pub returns : goal.returns
 unfolding put_floats

@@ -3,8 +3,6 @@ use native.Mathlib.Omega.{arith}
 use Rattle.floats.specs.Fields.{put_four}
 use Rattle.floats.proofs.put_four.Goals as goal
 
-)
-
 pub returns : goal.returns
 unfolding put_four
 returns c = (
@@ -14,3 +12,4 @@ returns c = (
       (c.put_vec3-3.ensures.1 (omega arith) (omega arith)
       (c.put_vec3-2.ensures.1 (omega arith) (omega arith)
       (c.put_vec3.ensures.1 g t w))),
+)

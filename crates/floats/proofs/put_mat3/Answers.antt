@@ -3,8 +3,6 @@ use native.Mathlib.Omega.{arith}
 use Rattle.floats.specs.Fields.{put_mat3}
 use Rattle.floats.proofs.put_mat3.Goals as goal
 
-)
-
 pub returns : goal.returns
 unfolding put_mat3
 returns c = (
@@ -13,3 +11,4 @@ returns c = (
       c.put_vec3-3.ensures.1 (omega arith) (omega arith)
       (c.put_vec3-2.ensures.1 (omega arith) (omega arith)
       (c.put_vec3.ensures.1 g t w)),
+)

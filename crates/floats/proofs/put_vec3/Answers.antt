@@ -14,8 +14,7 @@ in_turn_lem b k v e1 e2 e3 = rw (e3, e2, e1) refl
 
 pub returns : goal.returns
 returns c =
-    let f = e in
-    let a = f.args in (
-      in_turn_lem _ a.k a.v f.put_f32.ensures.0 c.put_f32-2.ensures.0 c.put_f32-3.ensures.0,
-      λ g t w. c.put_f32-3.ensures.1 (omega arith) (omega arith) (c.put_f32-2.ensures.1 (omega arith) (omega arith) (f.put_f32.ensures.1 g t w)),
+    let a = c.args in (
+      in_turn_lem _ a.k a.v c.put_f32.ensures.0 c.put_f32-2.ensures.0 c.put_f32-3.ensures.0,
+      λ g t w. c.put_f32-3.ensures.1 (omega arith) (omega arith) (c.put_f32-2.ensures.1 (omega arith) (omega arith) (c.put_f32.ensures.1 g t w)),
     )

@@ -14,14 +14,12 @@ loop-init c = coming_none
 
 pub loop-preserved : goal.loop-preserved
 loop-preserved c =
-    let second = third in
-    let first = second in
-    let loop = first.loop in
+    let loop = c.loop in
     coming_more loop.invariant (search rules) (cc)
     (swept loop.a loop.v
-    first.rotation_at-g1.ensures
-    second.turn_01-a1.ensures
-    second.rotation_at-g2.ensures
+    c.rotation_at-g1.ensures
+    c.turn_01-a1.ensures
+    c.rotation_at-g2.ensures
     c.turn_02-a2.ensures
     c.rotation_at-g3.ensures
     c.turn_12-a3.ensures

@@ -5,7 +5,7 @@ use Rattle.linalg.proofs.symmetric_eigen.Given as goal
 
 abbrev pub invariant-loop : goal.invariant-loop
 invariant-loop l =
-    Coming {S = State} 8 (λ x. settled x.a) sweep (record { l.a = l.initial.a; l.v = l.initial.v }) l.counter (record { l.a = l.a; l.v = l.v })
+    Coming {S = State} 8 (λ x. settled x.a) sweep (record { a = l.initial.a; v = l.initial.v }) l.counter (record { a = l.a; v = l.v })
 
 abbrev pub decreases-loop : goal.decreases-loop
 decreases-loop l = 8 - l.counter

@@ -2,10 +2,9 @@
 use mathlib.Core.Path.{refl}
 use Rattle.neo_hookean_record.proofs.is_kept.Goals as goal
 
-)
-    refl
-
 pub returns : goal.returns
 returns c = rw (
   c.is_fresh.ensures,
   c.floats6_at-last.ensures,
+)
+    refl

@@ -2,8 +2,6 @@
 use mathlib.Core.Path.{refl}
 use Rattle.neo_hookean_record.proofs.put_kept.Goals as goal
 
-)
-
 pub returns : goal.returns
 returns c = (
   rw (
@@ -12,3 +10,4 @@ returns c = (
   )
       refl,
   λ w. c.put_strains.ensures.1 (c.put_pose.ensures.1 w),
+)

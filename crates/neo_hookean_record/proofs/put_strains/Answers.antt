@@ -4,8 +4,6 @@ use mathlib.Core.Path.{refl}
 use Rattle.neo_hookean_record.specs.Parts.{put_strains}
 use Rattle.neo_hookean_record.proofs.put_strains.Goals as goal
 
-)
-
 pub returns : goal.returns
 unfolding put_strains
 returns c = (
@@ -15,3 +13,4 @@ returns c = (
   )
       refl,
   λ w. c.put_strained.ensures.1 (c.put_floats6.ensures.1 (omega arith) (omega arith) w),
+)

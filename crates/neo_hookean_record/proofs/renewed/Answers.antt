@@ -3,9 +3,6 @@ use mathlib.Core.Path.{refl}
 use Rattle.neo_hookean_record.specs.Parts.{block_anew}
 use Rattle.neo_hookean_record.proofs.renewed.Goals as goal
 
-)
-    refl
-
 pub returns : goal.returns
 unfolding block_anew
 returns c = rw (
@@ -13,3 +10,5 @@ returns c = rw (
   c.material_of-p.ensures,
   c.masses_at-im.ensures,
   c.four_at-coeffs.ensures,
+)
+    refl

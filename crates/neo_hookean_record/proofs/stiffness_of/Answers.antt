@@ -4,9 +4,6 @@ use Rattle.stored.specs.Read.{stiffness_of}
 use Rattle.cell_record.proofs.Joined.{joined_of}
 use Rattle.neo_hookean_record.proofs.stiffness_of.Goals as goal
 
-)
-    refl
-
 pub returns : goal.returns
 unfolding stiffness_of
 returns c = rw (
@@ -20,3 +17,5 @@ returns c = rw (
       c.floats6_at-c4.ensures
       c.floats6_at-c5.ensures,
   c.floats6_at-stiffness_strain.ensures,
+)
+    refl

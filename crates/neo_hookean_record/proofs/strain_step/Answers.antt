@@ -4,9 +4,6 @@ use Rattle.neo_hookean.specs.NeoHookean.{strain_step}
 use Rattle.neo_hookean_record.specs.Parts.{strain_step_at}
 use Rattle.neo_hookean_record.proofs.strain_step.Goals as goal
 
-)
-    refl
-
 pub returns : goal.returns
 unfolding strain_step strain_step_at
 returns c = rw (
@@ -14,3 +11,5 @@ returns c = rw (
   c.pulled-residual.ensures,
   c.stiffness_of.ensures,
   c.strain_rates-rate.ensures,
+)
+    refl

@@ -12,21 +12,15 @@ use Rattle.real.specs.Real.{signum}
 use Rattle.real.specs.Sign.{by_sign_bit}
 use Rattle.real.proofs.signum.Goals as goal
 
-number : (c : tie.Else1) → is_nan c.before.args.x ≡ false
-number c = is_number c.before.args.x c.if1.false
-
-chosen : (c : tie.Else1) → cond (leb 0x8000_0000 (to_bits binary32 c.before.args.x)) (neg f1) f1 ≡ signum c.before.args.x
-chosen c = by_sign_bit c.before.args.x (passes (fits binary32 c.before.args.x) c.before.well-formed.0.1) (number c)
-
 pub returns-then-x : goal.returns-then-x
 unfolding signum
 returns-then-x c = rw (is_nan_lem c.args.x c.if-x.true) refl
 
 pub float_to_bits-x : goal.float_to_bits-x
-float_to_bits-x c = passes (not (is_nan c.args.x)) (rw (number c) refl)
+float_to_bits-x c = passes (not (is_nan c.args.x)) (rw (is_number c.args.x c.if-x.false) refl)
 
 pub returns-then-x-ge2147483648 : goal.returns-then-x-ge2147483648
-returns-then-x-ge2147483648 c = rw (le-leb _ _ c.if-x-ge2147483648.true) at (chosen c)
+returns-then-x-ge2147483648 c = rw (le-leb _ _ c.if-x-ge2147483648.true) at (by_sign_bit c.args.x (passes (fits binary32 c.args.x) c.well_formed.0.1) (is_number c.args.x c.if-x.false))
 
 pub returns : goal.returns
-returns c = rw (lt-leb _ _ c.if-x-ge2147483648.false) at (chosen c)
+returns c = rw (lt-leb _ _ c.if-x-ge2147483648.false) at (by_sign_bit c.args.x (passes (fits binary32 c.args.x) c.well_formed.0.1) (is_number c.args.x c.if-x.false))

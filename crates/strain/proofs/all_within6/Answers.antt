@@ -15,6 +15,5 @@ called a limit e0 e1 e2 e3 e4 e5 = rw (e0, e1, e2, e3, e4, e5) refl
 
 pub returns : goal.returns
 returns c =
-    let f = e in
-    called f.args.a.now f.args.limit c.abs.ensures c.abs-2.ensures c.abs-3.ensures c.abs-4.ensures
+    called c.args.a.now c.args.limit c.abs.ensures c.abs-2.ensures c.abs-3.ensures c.abs-4.ensures
     c.abs-5.ensures c.abs-6.ensures

@@ -12,7 +12,7 @@ returns c =
       c.ger-k1.ensures,
       c.mode_of-w2.ensures,
       c.mode_of-w1.ensures,
-      c.Mode-of.ensures,
+      c.mode_of-w0.ensures,
       c.scaling-t2.ensures,
       c.scaling-t1.ensures,
       c.scaling-t0.ensures,

@@ -9,7 +9,7 @@ pub loop-k-init : goal.loop-k-init
 loop-k-init c = ran_none
 
 pub loop-k-preserved : goal.loop-k-preserved
-loop-k-preserved c = ran_more c.loop-k.invariant (search rules) c.Row-step.ensures
+loop-k-preserved c = ran_more c.loop-k.invariant (search rules) c.row_step-n.ensures
 
 pub returns : goal.returns
 unfolding rotate_rows
