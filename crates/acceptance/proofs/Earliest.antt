@@ -112,7 +112,7 @@ pub record Earliest (ts : List Test) (n k : ℕ) : Type 0 where
 pub first_earliest : (a n k : ℕ) (ts : List Test) → in_turn a ts ≡ true → first_of ts ≡ refused (suc n) k → Earliest ts (suc n) k
 unfolding first_of Has
 first_earliest a n k [] p q = absurd (refused_not q refl)
-first_earliest a n k (t ∷ ts) p q = go t.fails refl q (first_earliest _ n k ts (in_turn_lem a t ts p).2)
+first_earliest a n k (t ∷ ts) p q = go t.fails refl q (first_earliest (turn (number_of t.refusal) t.place + 1) n k ts (in_turn_lem a t ts p).2)
   where
     go : (b : Bool) → t.fails ≡ b → cond b (refused (number_of t.refusal) t.place) (first_of ts) ≡ refused (suc n) k
         → (first_of ts ≡ refused (suc n) k → Earliest ts (suc n) k) → Earliest (t ∷ ts) (suc n) k
@@ -134,7 +134,7 @@ first_earliest a n k (t ∷ ts) p q = go t.fails refl q (first_earliest _ n k ts
 pub earliest_first : (a n k : ℕ) (ts : List Test) → in_turn a ts ≡ true → Earliest ts (suc n) k → first_of ts ≡ refused (suc n) k
 unfolding first_of Has
 earliest_first a n k [] p x = absurd x.has
-earliest_first a n k (t ∷ ts) p x = go t.fails refl x.has (earliest_first _ n k ts (in_turn_lem a t ts p).2)
+earliest_first a n k (t ∷ ts) p x = go t.fails refl x.has (earliest_first (turn (number_of t.refusal) t.place + 1) n k ts (in_turn_lem a t ts p).2)
   where
     go : (b : Bool) → t.fails ≡ b → Has (suc n) k (t ∷ ts) → (Earliest ts (suc n) k → first_of ts ≡ refused (suc n) k)
         → cond b (refused (number_of t.refusal) t.place) (first_of ts) ≡ refused (suc n) k

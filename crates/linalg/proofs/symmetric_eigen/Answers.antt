@@ -2,12 +2,12 @@
 -- Assumes nothing.
 use Prim.Native.Nat.{◌-◌}
 use mathlib.Core.Path.{◌∙◌, ap}
-use mathlib.Core.Logic.{⊎_elim}
 use borrow.Author.Rules.{rules}
 use Rattle.loops.specs.Loops.{coming_none, coming_more, coming_stop, coming_end}
 use Rattle.linalg.specs.Eigen.{sweeps, eigen_of, symmetric_eigen}
 use Rattle.linalg.specs.Steps.{swept}
 use Rattle.linalg.proofs.symmetric_eigen.Goals as goal
+use Rattle.linalg.proofs.symmetric_eigen.Goals.{else-loop-test, then-loop-test+then-is_settled}
 
 pub loop-init : goal.loop-init
 loop-init c = coming_none
@@ -33,5 +33,7 @@ returns c =
     let loop = c.loop in
     c.eigen_of.ensures
     ∙ ap eigen_of
-    (⊎_elim (λ w. coming_end loop.invariant (search rules)) (λ w. coming_stop loop.invariant (search rules) (cc))
-    c.loop-test.branch)
+    (elim c.loop-test.branch [
+      | else-loop-test w ↦ coming_end loop.invariant (search rules)
+      | then-loop-test+then-is_settled w ↦ coming_stop loop.invariant (search rules) (cc)
+    ])
