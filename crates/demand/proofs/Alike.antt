@@ -8,7 +8,7 @@ use lib.ListN.{length, get_elem?}
 use Rattle.little_endian.specs.Bytes.{le32}
 use Rattle.relisting.specs.Build.{points_equal}
 use Rattle.relisting.specs.Steps.{run}
-use Rattle.relisting.specs.Relist.{relisted_run}
+use Rattle.relisting.proofs.Relist.{relisted_run}
 use Rattle.records.specs.Answers.{accepted}
 use Rattle.clash.specs.Clash.{overflow}
 use Rattle.frame.specs.Frames.{count_n, mode_of, resweeps_of, head, points, rows}

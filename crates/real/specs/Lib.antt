@@ -4,6 +4,4 @@ pub mod Real
 pub mod SinCos
 pub mod Acos
 pub mod Sign
-pub mod Turn
-pub mod Laws
 pub mod Worked

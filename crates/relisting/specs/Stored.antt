@@ -1,7 +1,7 @@
 -- Rows that are stored as something else, as bytes: a step reads the row, and puts back what it made of it. If the step on rows is local, so is that on what they are stored as. Assumes nothing.
-use Rattle.std.specs.Prelude.{◌≡◌, ℕ}
-use Rattle.std.proofs.Common.{ap, ◌∙◌}
-use Rattle.relisting.specs.Access.{Access, Agree, Local}
+use Rattle.std.specs.Prelude.{◌≡◌}
+use Rattle.std.proofs.Common.{ap}
+use Rattle.relisting.specs.Access.{Access, Local}
 use Rattle.relisting.specs.Steps.{storing}
 
 module _ {R S P K X : Type 0} (F : Access R S P K) (read : X → R) where

@@ -3,7 +3,7 @@ use Rattle.std.specs.Prelude.{◌≡◌, false, eqb, Float}
 use Rattle.std.proofs.Math.Path.{refl}
 use Rattle.std.specs.Float.{nan}
 use Rattle.real.specs.Float.{f0}
-use Rattle.real.specs.Laws.{clamp_nan}
+use Rattle.real.proofs.Laws.{clamp_nan}
 use Rattle.real.specs.Real.{max}
 use Rattle.vector.specs.declared.Four.{Four}
 use Rattle.places.specs.declared.Holds.{Holds}

@@ -1,6 +1,6 @@
 -- `real::acos` meets its contract. The test is the definition's, and the branches are the callee's. Assumes nothing.
 use mathlib.Core.Path.{sym, ◌∙◌}
-use Rattle.real.specs.Laws.{acos_up_lem, acos_else}
+use Rattle.real.proofs.Laws.{acos_up_lem, acos_else}
 use Rattle.real.proofs.acos.Goals as goal
 
 pub returns-then-d : goal.returns-then-d
