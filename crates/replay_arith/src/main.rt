@@ -32,7 +32,7 @@ enum Function {
     Shape(Shape),
 }
 
-// It only writes, which no contract can say.
+// It only writes, which no contract can say. The error is that of the last line, if it cannot be written.
 fn main(rt: HostRuntime) -> io::Result<()> {
     let t = Tally {
         records: 0,
@@ -46,7 +46,8 @@ fn main(rt: HostRuntime) -> io::Result<()> {
     replay::report(&rt, b"all", t)
 }
 
-// Replays the file of a function, whose records have `size` words, and adds what came of it to `t`.
+// Replays the file of a function, whose records have `size` words, and adds what came of it to `t`. A line that cannot be written is passed over: `main`
+// answers what came of the last one.
 fn replay_file(rt: &(impl Files + Print), t: Tally, name: &[u8], f: Function, size: usize) -> Tally
     requires { (1 ≤ size) × (size ≤ 400) }
     ensures { Replayed (agreed f) size t result }
