@@ -1,5 +1,4 @@
 -- `replay_frames::replay` meets its contract. One entry a turn. Assumes nothing.
-use Prim.Native.Nat.{◌-◌}
 use borrow.Author.Rules.{rules}
 use Rattle.replay_frames.specs.Entries.{none, counts_right, counts_wrong}
 use Rattle.replay_frames.proofs.replay.Goals as goal

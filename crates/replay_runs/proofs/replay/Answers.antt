@@ -1,5 +1,4 @@
 -- `replay_runs::replay` meets its contract. One entry a turn. Assumes nothing.
-use Prim.Native.Nat.{◌-◌}
 use mathlib.Core.Path.{refl}
 use borrow.Author.Rules.{rules}
 use Rattle.replay_runs.specs.Entries.{none}
