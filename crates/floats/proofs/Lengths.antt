@@ -6,7 +6,7 @@ use lib.Ieee.{Float}
 use lib.ListN.{length}
 use Rattle.loops.specs.Loops.{up_to}
 use Rattle.real.specs.Float.{at}
-use Rattle.little_endian.specs.Bytes.{f32_bytes, patch}
+use Rattle.little_endian.specs.Bytes.{f32_bytes}
 use Rattle.little_endian.proofs.Patch.{length-patch}
 use Rattle.vector.specs.declared.Vec3.{Vec3}
 use Rattle.vector.specs.declared.Mat3.{Mat3}

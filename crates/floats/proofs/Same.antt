@@ -1,14 +1,14 @@
 -- What was read and is put back as it is leaves the same bytes: a finite float, and a vector of three. Bytes stay bytes, and a vector beside what is put stays. Assumes nothing.
 use Prim.Native.Nat.{ℕ, zero, suc, ◌+◌, ◌*◌, ◌<◌, ◌≤◌, ◌/◌, ◌%◌}
-use mathlib.Core.Path.{◌≡◌, refl, sym, ap, ◌∙◌, subst}
+use mathlib.Core.Path.{◌≡◌, sym, ap, ◌∙◌, subst}
 use mathlib.Core.Bool.{Bool, true, not}
-use mathlib.Core.Logic.{◌⊎◌, inl, inr}
+use mathlib.Core.Logic.{inl, inr}
 use mathlib.Core.List.{List, [], ◌∷◌}
 use native.Mathlib.Omega.{arith}
 use native.Mathlib.Nat.{add-zero, mod-eq_of_lt}
 use native.Mathlib.Numerals.{add-one, add-two, add-three}
 use lib.Dec.{T}
-use lib.ListN.{length, get_or, set}
+use lib.ListN.{get_or, set}
 use lib.Seq.{sets, set-get_or}
 use lib.Ieee.{Float, binary32, of_bits, to_bits, is_nan}
 use lib.Ieee.Bits.{to_bits-of_bits, nan_bits_is}

@@ -1,5 +1,5 @@
 -- What put_f32 writes is as it writes: one float put leaves a record's floats so, and two bytes before them do. Assumes nothing.
-use Prim.Native.Nat.{ℕ, ◌+◌, ◌*◌, ◌%◌, ◌≤◌, ◌<◌}
+use Prim.Native.Nat.{ℕ, ◌+◌, ◌%◌, ◌≤◌, ◌<◌}
 use mathlib.Core.Path.{◌≡◌, refl, sym, ap, ◌∙◌, subst}
 use mathlib.Core.Bool.{Bool, true, false, not}
 use mathlib.Core.Logic.{◌⊎◌, inl, inr}
@@ -7,10 +7,10 @@ use mathlib.Core.List.{List}
 use native.Mathlib.Omega.{arith}
 use lib.Dec.{T, eqb, ltb, lit≤}
 use lib.ListN.{length}
-use lib.Ieee.{Float, nan, inf, fin, binary32, of_bits, to_bits, fits, nan_bits}
+use lib.Ieee.{Float, nan, binary32, of_bits, to_bits, fits, nan_bits}
 use lib.Ieee.Bits.{of_bits-to_bits, to_bits-lt}
 use borrow.Author.Tests.{eqb-true, eqb-false, ltb-true, ltb-false}
-use Rattle.little_endian.specs.Bytes.{le32, bytes2, bytes4, f32_bytes, patch}
+use Rattle.little_endian.specs.Bytes.{le32, bytes2, f32_bytes, patch}
 use Rattle.little_endian.proofs.Patch.{length-patch, le32_back, le32_beside}
 use Rattle.little_endian.proofs.Floats.{above_nan, not_above}
 use Rattle.floats.specs.Fields.{put_f32}

@@ -13,7 +13,6 @@ use Rattle.vector.specs.declared.Four.{Four}
 use Rattle.gradients.specs.Dihedral.{micro, no_gradients, fold_of, no_area, bent, dihedral_gradients}
 use Rattle.gradients.specs.Gradients.{distance_gradients}
 use Rattle.gradients.specs.declared.Fold.{Fold}
-use Rattle.gradients.specs.declared.Gradients.{Gradients}
 
 -- a distance row's two gradients are opposite, and it leaves the other two as they are
 module _ (pos grad : Four) (rest : Float) where

@@ -7,7 +7,6 @@ use Rattle.real.specs.Float.{f0, f1, f2}
 use Rattle.vector.specs.declared.Vec3.{Vec3}
 use Rattle.vector.specs.declared.Mat3.{Mat3}
 use Rattle.vector.specs.Matrix.{identity}
-use Rattle.linalg.specs.declared.Eigen.{Eigen}
 use Rattle.linalg.specs.Eigen.{symmetric_eigen, sweeps}
 
 abbrev f3 : Float

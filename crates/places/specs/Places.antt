@@ -1,5 +1,5 @@
 -- A row has four places, each with the id of a point. What a place holds is fetched before a row function is called: no row function sees a frame. Definitions only. Assumes nothing.
-use Rattle.std.specs.Prelude.{Bool, cond, Float}
+use Rattle.std.specs.Prelude.{cond}
 use Rattle.vector.specs.declared.Vec3.{Vec3}
 use Rattle.vector.specs.declared.Four.{Four}
 use Rattle.places.specs.declared.Held.{Held}

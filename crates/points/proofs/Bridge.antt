@@ -2,12 +2,12 @@
 use Prim.Native.Nat.{ℕ, zero, suc, ◌+◌, ◌*◌, ◌≤◌, ◌<◌}
 use mathlib.Core.Path.{◌≡◌, refl, sym, ap, ◌∙◌}
 use mathlib.Core.Bool.{Bool, true, false, cond, not}
-use mathlib.Core.Option.{Option, none, some}
+use mathlib.Core.Option.{none}
 use mathlib.Core.List.{List, [], ◌∷◌, ◌++◌, append_assoc}
 use native.Mathlib.Omega.{arith}
 use native.Mathlib.Nat.{add-zero, not-suc-le-zero, le_of_suc-le-suc}
 use lib.Dec.{ltb, eqb}
-use lib.ListN.{length, take, drop, length-append, get_elem?}
+use lib.ListN.{length, drop, length-append, get_elem?}
 use lib.Seq.{take_at, drop_at}
 use borrow.Author.Tests.{ltb-true, ltb-false}
 use Rattle.little_endian.specs.Bytes.{part}
@@ -18,8 +18,6 @@ use Rattle.vector.specs.Vector.{zero_vector}
 use Rattle.vector.specs.declared.Vec3.{Vec3}
 use Rattle.vector.specs.declared.Four.{Four}
 use Rattle.places.specs.declared.Ids.{Ids}
-use Rattle.places.specs.declared.Held.{Held}
-use Rattle.places.specs.declared.Holds.{Holds}
 use Rattle.rows.specs.Row.{nobody, places, value_of, held_at, holds_of, keep_if, loss_of, losses_of, four}
 use Rattle.stored.specs.Points.{lose}
 use Rattle.points.specs.InFrame.{Sized, on_part, point_in, held_in, holds_in, taken_at, taken}

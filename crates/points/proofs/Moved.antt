@@ -3,7 +3,7 @@ use Prim.Native.Nat.{ℕ, zero, suc, ◌+◌, ◌*◌, ◌≤◌, ◌<◌}
 use mathlib.Core.Path.{◌≡◌, refl, sym, ap, ◌∙◌, subst}
 use mathlib.Core.Bool.{Bool, true, false, cond, not}
 use mathlib.Core.Logic.{◌⊎◌, inl, inr}
-use mathlib.Core.List.{List, [], ◌∷◌, ◌++◌, append_assoc}
+use mathlib.Core.List.{List, [], ◌∷◌, ◌++◌}
 use native.Mathlib.Omega.{arith}
 use native.Mathlib.Nat.{add-zero}
 use native.Mathlib.Numerals.{add-one}
@@ -11,23 +11,22 @@ use lib.Dec.{T, ltb, eqb}
 use lib.Ieee.{Float, binary32, fits, of_bits, nan}
 use lib.Ieee.Fits.{sub-fits, nan-fits}
 use lib.Ieee.Bits.{of_bits-fits}
-use lib.ListN.{length, replicate, get_or, set, take, drop, take-append-drop, length-set}
+use lib.ListN.{length, replicate, set, take, drop, take-append-drop, length-set}
 use lib.Seq.{sets, set-set, set_comm, length-take-le, take_at, drop_at, drop-drop, get_or-set_same, get_or-set_other}
 use borrow.Author.Count.{below_more}
 use borrow.Author.Tests.{ltb-true, ltb-false, lt-ltb, le-ltb}
 use Rattle.real.specs.Float.{at}
-use Rattle.little_endian.specs.Bytes.{le32, f32_at, f32_bytes, patch, part}
+use Rattle.little_endian.specs.Bytes.{le32, f32_at, f32_bytes, part}
 use Rattle.little_endian.proofs.Parts.{Bytes, le32_part, length_part}
 use Rattle.little_endian.proofs.Patch.{sets-left, sets-middle, sets-comm, f32_back, Beside, le32_beside}
 use Rattle.vector.specs.declared.Vec3.{Vec3}
 use Rattle.vector.specs.declared.Four.{Four}
 use Rattle.vector.specs.Vector.{sub, zero_vector}
 use Rattle.places.specs.declared.Ids.{Ids}
-use Rattle.places.specs.declared.Held.{Held}
 use Rattle.rows.specs.Row.{nobody}
 use Rattle.floats.specs.Fields.{vec3_at, put_f32, put_vec3}
 use Rattle.floats.proofs.Lengths.{length-put_f32, length-put_vec3}
-use Rattle.floats.proofs.Same.{Finite3, put_vec3_same, f32_beside_vec3, vec3_beside}
+use Rattle.floats.proofs.Same.{Finite3, put_vec3_same, vec3_beside}
 use Rattle.stored.specs.Points.{lose, position, velocity}
 use Rattle.points.specs.InFrame.{on_part, place_of, point_in, held_in, holds_in, taken_at, taken}
 use Rattle.points.specs.Apart.{velocity_at, vec_of, set_vec, moved, AllFit, Fit, Apart, held_of, holds_of, lost_at, lost}

@@ -1,5 +1,5 @@
 -- The velocities of a frame's points set apart, as a list of floats with three for each point: which frame such a list and the frame's bytes stand for. Definitions only. Assumes nothing.
-use Rattle.std.specs.Prelude.{ℕ, zero, suc, ◌+◌, ◌*◌, ◌<◌, Bool, cond, not, List, ◌≡◌, T, ltb, eqb, length, set, Float}
+use Rattle.std.specs.Prelude.{ℕ, zero, suc, ◌+◌, ◌*◌, ◌<◌, cond, not, List, ◌≡◌, T, ltb, eqb, length, set, Float}
 use Rattle.std.specs.Float.{binary32}
 use Rattle.std.specs.Float.Ieee.{fits}
 use Rattle.real.specs.Float.{at}

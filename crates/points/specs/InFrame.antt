@@ -1,5 +1,5 @@
 -- What the code that fetches from points and takes from them is proved equal to, on the bytes of a whole frame. A reader of the rules does not need it: proofs/Bridge.antt shows that it is the rules on lists of points. Definitions only. Assumes nothing.
-use Rattle.std.specs.Prelude.{ℕ, ◌+◌, ◌*◌, Bool, cond, not, List, [], ◌∷◌, ◌++◌, ◌≡◌, ltb, eqb, length, take, drop}
+use Rattle.std.specs.Prelude.{ℕ, ◌+◌, ◌*◌, cond, not, List, [], ◌∷◌, ◌++◌, ◌≡◌, ltb, eqb, length, take, drop}
 use Rattle.little_endian.specs.Bytes.{part}
 use Rattle.records.specs.Layout.{head_end, point_end}
 use Rattle.vector.specs.Vector.{zero_vector}

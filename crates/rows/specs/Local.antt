@@ -1,5 +1,5 @@
 -- A row's update, warm start and solve are local: each goes by its row and the points that the row names, alters only named points in range, and keeps colour, names and masses. Assumes nothing.
-use Rattle.std.specs.Prelude.{ℕ, ◌≡◌, refl, Bool, true, false, ◌⊎◌, ltb, Float}
+use Rattle.std.specs.Prelude.{ℕ, ◌≡◌, refl, Bool, true, false, ltb, Float}
 use Rattle.std.proofs.Common.{ap, inl, inr}
 use Rattle.std.proofs.Math.Option.{Option}
 use mathlib.Core.List.Memᴰ
@@ -11,8 +11,8 @@ use Rattle.places.specs.declared.Holds.{Holds}
 use Rattle.scalar.specs.Row as s
 use Rattle.corotational.specs.Row as co
 use Rattle.neo_hookean.specs.Row as nh
-use Rattle.rows.specs.Row.{Row, Constraint, scalar, corotational, neo_hookean, Key, key_of, names_of, masses_of, holds_of, keep_if, in_range, losses_of, four}
-use Rattle.rows.specs.Step.{update_of, warmstart_of, solve_of, with_constraint, update, warm, solve, by}
+use Rattle.rows.specs.Row.{Row, Constraint, scalar, corotational, neo_hookean, Key, key_of, names_of, masses_of, holds_of, keep_if, in_range, losses_of}
+use Rattle.rows.specs.Step.{update_of, warmstart_of, solve_of, update, warm, solve, by}
 
 -- ---- the points that a row writes: those that it names and that are in range
 

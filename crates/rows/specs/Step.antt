@@ -1,17 +1,15 @@
 -- One row's update, warm start and solve, over any kind of point: each fetches what the row's places hold, computes from the row and that alone, and alters the points that the row names and that are in range. The steps of the two sweeps are made of them in stored/specs/Points.antt. Definitions only. Assumes nothing.
-use Rattle.std.specs.Prelude.{ℕ, Bool, List, [], ◌∷◌, Float}
+use Rattle.std.specs.Prelude.{ℕ, Bool, List, [], Float}
 use Rattle.std.proofs.Math.Option.{Option}
 use Rattle.relisting.specs.Steps.{fetch, alters}
 use Rattle.vector.specs.declared.Vec3.{Vec3}
 use Rattle.vector.specs.declared.Four.{Four}
 use Rattle.places.specs.declared.Holds.{Holds}
 use Rattle.scalar.specs.Row as s
-use Rattle.scalar.specs.declared.Solved as ss
 use Rattle.corotational.specs.Row as c
 use Rattle.neo_hookean.specs.Row as n
 use Rattle.cell.specs.Cell as cell
-use Rattle.cell.specs.declared.Solved as es
-use Rattle.rows.specs.Row.{Row, Constraint, scalar, corotational, neo_hookean, Key, key_of, names_of, holds_of, losses_of, four}
+use Rattle.rows.specs.Row.{Row, Constraint, scalar, corotational, neo_hookean, key_of, holds_of, losses_of, four}
 
 -- ---- the constraint by its kind
 

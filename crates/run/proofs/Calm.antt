@@ -1,17 +1,16 @@
 -- The velocities of an accepted frame are finite. Assumes nothing.
 use Prim.Native.Nat.{ℕ, zero, suc, ◌+◌, ◌*◌, ◌≤◌, ◌<◌}
-use mathlib.Core.Path.{◌≡◌, refl, sym, ap, ◌∙◌, subst}
-use mathlib.Core.Bool.{Bool, true}
+use mathlib.Core.Path.{◌≡◌, sym, ap, ◌∙◌, subst}
 use mathlib.Core.List.{List, [], ◌∷◌, ◌++◌, append_assoc}
 use native.Mathlib.Omega.{arith}
 use native.Mathlib.Nat.{not-suc-le-zero, le_of_suc-le-suc}
 use lib.Ieee.{binary32, of_bits}
 use lib.ListN.{length, length-append}
-use Rattle.little_endian.specs.Bytes.{le16, le32, f32_at, is_finite}
+use Rattle.little_endian.specs.Bytes.{le16, le32, is_finite}
 use Rattle.little_endian.proofs.Parts.{le32_middle}
 use Rattle.records.specs.declared.Due.TheVariants.{Point}
 use Rattle.records.specs.Answers.{Passed}
-use Rattle.records.specs.Fields.{finite, run, point_fields, fields}
+use Rattle.records.specs.Fields.{finite, run, point_fields}
 use Rattle.records.specs.Records.{flatten}
 use Rattle.records.proofs.ByKind.{Kind, a_point, fields_2}
 use Rattle.floats.proofs.Same.{Finite3}

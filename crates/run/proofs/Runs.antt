@@ -1,21 +1,20 @@
 -- An accepted frame is laid out from its own rows and points, and what the sweeps make of it is the run of the rules. Assumes nothing.
-use Prim.Native.Nat.{ℕ, ◌+◌, ◌*◌, ◌≤◌, ◌<◌}
-use mathlib.Core.Path.{◌≡◌, refl, sym, ap, ◌∙◌, subst}
-use mathlib.Core.Bool.{Bool, true, false, cond}
+use Prim.Native.Nat.{ℕ, ◌≤◌}
+use mathlib.Core.Path.{◌≡◌, sym, ap, ◌∙◌, subst}
+use mathlib.Core.Bool.{false}
 use mathlib.Core.List.{List, [], ◌∷◌, ◌++◌}
 use native.Mathlib.Omega.{arith}
-use lib.Dec.{eqb}
 use lib.ListN.{length, length-append}
 use borrow.Author.Tests.{eq-eqb, ne_eqb}
 use Rattle.little_endian.specs.Bytes.{le16, le32}
 use Rattle.records.specs.declared.Answer.{Answer}
-use Rattle.records.specs.declared.Due.TheVariants.{Head, Point, Row}
+use Rattle.records.specs.declared.Due.TheVariants.{Point, Row}
 use Rattle.records.proofs.Firsts.{first_passed}
-use Rattle.records.specs.Records.{record_length, flatten}
+use Rattle.records.specs.Records.{flatten}
 use Rattle.records.proofs.ByKind.{Kind, a_scalar, a_corotational, a_neo_hookean}
-use Rattle.frame.specs.Frames.{count_n, count_r, mode_of, resweeps_of, head, points, rows}
+use Rattle.frame.specs.Frames.{count_n, count_r, resweeps_of, head, points, rows}
 use Rattle.frame.specs.Check.{frame_tests, check_of}
-use Rattle.acceptance.specs.Whole.{Good, Chain, Whole, InRange}
+use Rattle.acceptance.specs.Whole.{Good, Chain, Whole}
 use Rattle.acceptance.proofs.Parsing.{good_kind}
 use Rattle.acceptance.proofs.Wholes.{whole, within_range, head_length, point_length}
 use Rattle.relisting.specs.Steps.{run}

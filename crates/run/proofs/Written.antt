@@ -1,6 +1,6 @@
 -- The floats of an accepted row are as put_f32 writes them: none is a NaN. Assumes nothing.
-use Prim.Native.Nat.{ℕ, ◌+◌, ◌*◌, ◌-◌, ◌/◌, ◌%◌, ◌≤◌, ◌<◌}
-use mathlib.Core.Path.{◌≡◌, refl, sym, ap, ◌∙◌, subst}
+use Prim.Native.Nat.{ℕ, ◌+◌, ◌*◌, ◌-◌, ◌/◌, ◌%◌, ◌≤◌}
+use mathlib.Core.Path.{◌≡◌, refl, sym, ◌∙◌, subst}
 use mathlib.Core.Bool.{Bool, true, false}
 use mathlib.Core.List.{List}
 use native.Mathlib.Omega.{arith}
@@ -8,7 +8,7 @@ use lib.Dec.{ltb}
 use lib.ListN.{length}
 use lib.Ieee.{binary32, of_bits, is_nan}
 use borrow.Author.Tests.{ltb-true, ltb-false}
-use Rattle.little_endian.specs.Bytes.{le16, le32, f32_at, is_finite}
+use Rattle.little_endian.specs.Bytes.{le16, le32, is_finite}
 use Rattle.little_endian.proofs.Floats.{finite_bits, nan_bits_lem}
 use Rattle.records.specs.declared.Due.TheVariants.{Row}
 use Rattle.records.specs.Answers.{Passed}

@@ -11,7 +11,6 @@ use Rattle.places.specs.declared.Holds.{Holds}
 use Rattle.places.specs.declared.Masses.{Masses}
 use Rattle.places.specs.Places.{refreshed}
 use Rattle.gradients.specs.Gradients.{compute_gradients}
-use Rattle.gradients.specs.declared.Gradients.{Gradients}
 use Rattle.scalar.specs.declared.Spring.{Spring}
 use Rattle.scalar.specs.declared.Response.{Response}
 use Rattle.scalar.specs.declared.SoftScalarConstraint.{SoftScalarConstraint}

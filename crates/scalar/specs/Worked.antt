@@ -17,7 +17,6 @@ use Rattle.places.specs.declared.Holds as places
 use Rattle.gradients.specs.Gradients.{compute_gradients, distance_gradients, unit_x}
 use Rattle.scalar.specs.Row.{weight_of, respond, update, losses, rate_of, sought_of, total_of, solve, with_peak, begin}
 use Rattle.scalar.specs.declared.SoftScalarConstraint.{SoftScalarConstraint}
-use Rattle.scalar.specs.declared.Solved.{Solved}
 
 abbrev on_x : Float → Vec3
 on_x x = record { x = x; y = f0; z = f0 }

@@ -1,18 +1,18 @@
 -- What a step puts back leaves the row's kind, colour, count, ids and masses: every byte that its key is read from. Assumes nothing.
-use Rattle.std.specs.Prelude.{ℕ, zero, suc, ◌+◌, ◌*◌, ◌<◌, ◌≤◌, ◌≡◌, ◌⊎◌, Bool, cond, List, [], ◌∷◌, eqb, length, get_or, Float}
+use Rattle.std.specs.Prelude.{ℕ, zero, suc, ◌+◌, ◌*◌, ◌<◌, ◌≤◌, ◌≡◌, ◌⊎◌, Bool, cond, List, eqb, length, get_or, Float}
 use Rattle.std.proofs.Math.Path.{refl, sym}
-use Rattle.std.proofs.Common.{ap, ◌∙◌, inl, inr}
+use Rattle.std.proofs.Common.{◌∙◌, inl, inr}
 use Rattle.std.proofs.Math.Bool.{true, false}
 use native.Mathlib.Omega.{arith}
 use Rattle.loops.specs.Loops.{up_to}
 use Rattle.real.specs.Float.{at}
-use Rattle.little_endian.specs.Bytes.{le16, le32, f32_at, f32_bytes, bytes2, patch}
+use Rattle.little_endian.specs.Bytes.{le16, le32, f32_bytes, bytes2, patch}
 use Rattle.little_endian.proofs.Patch.{sets_below, sets-above}
 use Rattle.vector.specs.declared.Vec3.{Vec3}
 use Rattle.vector.specs.declared.Mat3.{Mat3}
 use Rattle.vector.specs.declared.Quat.{Quat}
 use Rattle.vector.specs.declared.Four.{Four}
-use Rattle.rows.specs.Row.{Row, Key, key_of, names_of, masses_of, Constraint, scalar, corotational, neo_hookean, places, counted_places}
+use Rattle.rows.specs.Row.{Key, key_of, names_of, masses_of, Constraint, scalar, corotational, neo_hookean, places, counted_places}
 use Rattle.floats.specs.Fields.{ids_at, masses_at, put_f32, put_vec3, put_four, put_mat3, put_quat, put_floats}
 use Rattle.stored.specs.Put.{put_flag}
 use Rattle.stored.specs.Read.{row_of, constraint_of, scalar_of, corotational_of, neo_hookean_of, cell_of}

@@ -1,6 +1,6 @@
 -- The steps over rows and points that are stored as bytes are local: what demand 3 asks of them. Assumes nothing.
-use Rattle.std.specs.Prelude.{ℕ, ◌+◌, ◌*◌, ◌<◌, ◌≤◌, ◌≡◌, refl, ◌⊎◌, Bool, true, false, cond, List, [], ◌∷◌, Float}
-use Rattle.std.proofs.Common.{sym, ap, ◌∙◌, inl, inr, arith}
+use Rattle.std.specs.Prelude.{ℕ, ◌≤◌, refl, Bool, true, false, cond, List, Float}
+use Rattle.std.proofs.Common.{◌∙◌, inl, inr, arith}
 use Rattle.std.proofs.Math.Option.{Option}
 use Rattle.relisting.specs.Access.{Access, Local}
 use Rattle.relisting.specs.Steps.{nothing}
@@ -12,11 +12,10 @@ use Rattle.scalar.specs.declared.SoftScalarConstraint.{SoftScalarConstraint}
 use Rattle.cell.specs.declared.Pose.{Pose}
 use Rattle.cell.specs.declared.Impulses.{Impulses}
 use Rattle.corotational.specs.declared.Volume.{Volume}
-use Rattle.corotational.specs.declared.CorotationalRow.{CorotationalRow}
 use Rattle.neo_hookean.specs.declared.Stiffness.{Stiffness}
 use Rattle.neo_hookean.specs.declared.NeoHookeanRow.{NeoHookeanRow}
 use Rattle.records.specs.Layout as at
-use Rattle.rows.specs.Row.{Row, Key, key_of, Constraint, scalar, corotational, neo_hookean}
+use Rattle.rows.specs.Row.{Row, Key, Constraint, scalar, corotational, neo_hookean}
 use Rattle.rows.specs.Local as rows
 use Rattle.floats.specs.Fields.{floats_at, put_f32, put_four, put_mat3, put_quat, put_floats}
 use Rattle.stored.specs.Read.{row_of}

@@ -1,7 +1,7 @@
 -- A row's step where the velocities are set apart is its step in the frame that both stand for. Assumes nothing.
 use Prim.Native.Nat.{ℕ, ◌+◌, ◌*◌, ◌-◌, ◌≤◌, ◌<◌}
-use mathlib.Core.Path.{◌≡◌, refl, sym, ap, ◌∙◌, subst}
-use mathlib.Core.List.{List, ◌++◌}
+use mathlib.Core.Path.{◌≡◌, sym, ap, ◌∙◌, subst}
+use mathlib.Core.List.{List}
 use native.Mathlib.Omega.{arith}
 use native.Mathlib.Nat.{add-zero, add-sub_cancel_left}
 use lib.Ieee.{Float}
@@ -20,7 +20,7 @@ use Rattle.floats.specs.Written.{AllWritten}
 use Rattle.points.specs.InFrame.{on_part, holds_in, taken}
 use Rattle.points.specs.Apart.{moved, Fit, holds_of, lost}
 use Rattle.points.proofs.Moved.{length_moved, moved_part, moved_on_part, positions_moved, holds_apart, lost_apart}
-use Rattle.sweep.specs.Laid.{At, Standing, Stepped, Ready}
+use Rattle.sweep.specs.Laid.{Standing, Stepped, Ready}
 use Rattle.sweep.specs.declared.Turn.{Turn}
 use Rattle.sweep.proofs.Rooms.{Room, room, size_here, length-here, record_here}
 use Rattle.sweep.proofs.Steps.{updated, warmed, solved, stands, NamesStay}

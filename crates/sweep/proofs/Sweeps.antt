@@ -1,11 +1,11 @@
 -- Laws of the loop over rows: a frame that is laid out stays so, and its rows and points are those of the rules. Assumes nothing.
-use Prim.Native.Nat.{ℕ, zero, suc, ◌+◌, ◌*◌, ◌-◌, ◌≤◌, ◌<◌}
+use Prim.Native.Nat.{ℕ, ◌+◌, ◌*◌, ◌≤◌, ◌<◌}
 use mathlib.Core.Path.{◌≡◌, refl, sym, ap, ◌∙◌, subst}
 use mathlib.Core.Bool.{Bool, true, false, cond}
 use mathlib.Core.List.{List, [], ◌∷◌, ◌++◌, append_assoc, append-nil}
 use native.Mathlib.Omega.{arith}
 use lib.ListN.{length, length-append}
-use Rattle.little_endian.specs.Bytes.{le16, le32}
+use Rattle.little_endian.specs.Bytes.{le16}
 use Rattle.records.specs.Records.{record_length, flatten}
 use Rattle.relisting.specs.Steps.{choose, nothing, sweep}
 use Rattle.stored.specs.Read.{row_of}

@@ -1,22 +1,22 @@
 -- Laws of the loop over resweeps, and of a main sweep and the resweeps behind it. Assumes nothing.
-use Prim.Native.Nat.{ℕ, zero, suc, ◌+◌, ◌*◌, ◌-◌, ◌≤◌, ◌<◌}
-use mathlib.Core.Path.{◌≡◌, refl, sym, ap, ◌∙◌, subst}
-use mathlib.Core.Bool.{Bool, true, false, cond}
+use Prim.Native.Nat.{ℕ, ◌+◌, ◌*◌, ◌-◌, ◌≤◌, ◌<◌}
+use mathlib.Core.Path.{◌≡◌, sym, ap, ◌∙◌, subst}
+use mathlib.Core.Bool.{cond}
 use mathlib.Core.List.{List, ◌++◌}
 use native.Mathlib.Omega.{arith}
 use native.Mathlib.Nat.{sub-zero}
 use lib.ListN.{length, replicate, length-append}
 use Rattle.records.proofs.Rest.{sub_turn}
 use Rattle.records.specs.Records.{flatten}
-use Rattle.relisting.specs.Steps.{choose, nothing, sweep, sweeps, run}
+use Rattle.relisting.specs.Steps.{choose, nothing, sweep, sweeps}
 use Rattle.stored.specs.Run.{lay}
 use Rattle.points.proofs.Bridge.{length-points}
 use Rattle.stored.specs.Read.{row_of}
 use Rattle.stored.specs.Points.{Points, resweep_step, main_step}
-use Rattle.stored.specs.Sizes.{Steady, resweep_steady}
+use Rattle.stored.specs.Sizes.{resweep_steady}
 use Rattle.sweep.specs.Laid.{phases, step_of, Resweep, Laid, Ready, Swept, Reswept, Ran}
 use Rattle.sweep.specs.declared.Turn.{Turn}
-use Rattle.sweep.proofs.Sweeps.{rows_many, points_many, step_steady, swept_ready}
+use Rattle.sweep.proofs.Sweeps.{rows_many, points_many, step_steady}
 
 -- a sweep of a turn that is a resweep
 pub reswept_one : (t : Turn) (n r : ℕ) (s s' : List ℕ) → Resweep t → Swept t n r s s'

@@ -1,5 +1,5 @@
 -- What the inner functions of a run cite: bytes that are laid out from a head, points and rows, and what a step or a sweep makes of them. A reader of the rules does not need it: the exported contract is stated with stored/specs/Run.antt. Definitions only. Assumes nothing.
-use Rattle.std.specs.Prelude.{ℕ, ◌+◌, ◌*◌, ◌≤◌, ◌<◌, ◌≡◌, Bool, true, false, cond, List, [], ◌∷◌, ◌++◌, length, replicate, Float}
+use Rattle.std.specs.Prelude.{ℕ, ◌+◌, ◌*◌, ◌≤◌, ◌<◌, ◌≡◌, true, false, cond, List, [], ◌∷◌, ◌++◌, length, replicate}
 use Rattle.little_endian.specs.Bytes.{le16}
 use Rattle.records.specs.Records.{record_length, flatten}
 use Rattle.relisting.specs.Steps.{choose, nothing, sweep, sweeps, run}

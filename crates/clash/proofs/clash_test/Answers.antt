@@ -1,5 +1,4 @@
 -- `clash::clash_test` meets its contract. The marks say which points the rows so far name, and in which colour. Assumes nothing.
-use Prim.Native.Nat.{◌-◌}
 use native.Mathlib.Omega.{arith}
 use Rattle.clash.proofs.Turns.{begins, whole, long, refuses, again, ends}
 use Rattle.clash.proofs.clash_test.Goals as goal

@@ -1,9 +1,7 @@
 -- `floats::get_floats` meets its contract. One store a turn. Assumes nothing.
 use borrow.Author.Rules.{rules}
-use Prim.Native.Nat.{◌-◌}
 use mathlib.Core.Path.{refl}
 use Rattle.loops.specs.Fill.{filled_none, filled_more, filled_all}
-use Rattle.little_endian.specs.Bytes.{f32_at}
 use Rattle.floats.specs.Fields.{floats_at}
 use Rattle.floats.proofs.get_floats.Goals as goal
 

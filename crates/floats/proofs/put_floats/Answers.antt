@@ -1,10 +1,9 @@
 -- `floats::put_floats` meets its contract. One float a turn. Assumes nothing.
 use borrow.Author.Rules.{rules}
 use native.Mathlib.Omega.{arith}
-use Prim.Native.Nat.{◌-◌}
 use mathlib.Core.Path.{refl}
 use Rattle.loops.specs.Loops.{ran_none, ran_more, ran_all}
-use Rattle.floats.specs.Fields.{put_f32, put_floats}
+use Rattle.floats.specs.Fields.{put_floats}
 use Rattle.floats.proofs.put_floats.Goals as goal
 
 pub loop-i-init : goal.loop-i-init

@@ -1,5 +1,4 @@
 -- `frame::records_test` meets its contract. Assumes nothing.
-use Prim.Native.Nat.{◌-◌}
 use native.Mathlib.Omega.{arith}
 use Rattle.frame.proofs.Scans.{begins, whole, long, colour_found, refuses, again, ends}
 use Rattle.frame.proofs.records_test.Goals as goal

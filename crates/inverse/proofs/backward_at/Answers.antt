@@ -1,6 +1,5 @@
 -- `inverse::backward_at` meets its contract. The loop is the definition's, and so is the division. Assumes nothing.
 use borrow.Author.Rules.{rules}
-use Prim.Native.Nat.{◌-◌}
 use mathlib.Core.Path.{refl}
 use Rattle.loops.specs.Loops.{ran_none, ran_more, ran_all}
 use Rattle.inverse.specs.Inverse.{backward_at}

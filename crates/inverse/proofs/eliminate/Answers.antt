@@ -1,6 +1,5 @@
 -- `inverse::eliminate` meets its contract. `eliminate_all` says what the loops come to. Assumes nothing.
 use borrow.Author.Rules.{rules}
-use Prim.Native.Nat.{◌-◌}
 use mathlib.Core.Path.{◌∙◌}
 use Rattle.loops.specs.Between.{went_none, went_more, went_all}
 use Rattle.inverse.specs.Elimination.{eliminate_all}

@@ -1,8 +1,6 @@
 -- `inverse::factor` meets its contract. The loop is the definition's; nothing follows a zero pivot. Assumes nothing.
 use borrow.Author.Rules.{rules}
-use Prim.Native.Nat.{◌-◌}
 use Rattle.loops.specs.Loops.{ran_none, ran_more, ran_all}
-use Rattle.inverse.specs.Inverse.{factor_column}
 use Rattle.inverse.specs.Factors.{factor_none, factor_some}
 use Rattle.inverse.proofs.factor.Goals as goal
 

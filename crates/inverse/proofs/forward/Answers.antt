@@ -1,6 +1,5 @@
 -- `inverse::forward` meets its contract. One part a turn. Assumes nothing.
 use borrow.Author.Rules.{rules}
-use Prim.Native.Nat.{◌-◌}
 use mathlib.Core.Path.{refl}
 use Rattle.loops.specs.Loops.{ran_none, ran_more, ran_all}
 use Rattle.inverse.specs.Inverse.{forward}

@@ -1,6 +1,5 @@
 -- `inverse::forward_at` meets its contract. The loop is the definition's. Assumes nothing.
 use borrow.Author.Rules.{rules}
-use Prim.Native.Nat.{◌-◌}
 use mathlib.Core.Path.{refl}
 use Rattle.loops.specs.Loops.{ran_none, ran_more, ran_all}
 use Rattle.inverse.specs.Inverse.{forward_at}

@@ -1,6 +1,5 @@
 -- `inverse::pivot_row` meets its contract. `Best` carries the row and its magnitude. Assumes nothing.
 use borrow.Author.Rules.{rules}
-use Prim.Native.Nat.{◌-◌}
 use Rattle.inverse.specs.Pivot.{best_none, best_more, best_all}
 use Rattle.inverse.proofs.pivot_row.Goals as goal
 

@@ -1,6 +1,5 @@
 -- `inverse::scale` meets its contract. The loop is the definition's. Assumes nothing.
 use borrow.Author.Rules.{rules}
-use Prim.Native.Nat.{◌-◌}
 use mathlib.Core.Path.{refl}
 use Rattle.loops.specs.Between.{went_none, went_more, went_all}
 use Rattle.inverse.specs.Elimination.{scaled}

@@ -1,6 +1,5 @@
 -- `inverse::solve` meets its contract. A column a turn. Assumes nothing.
 use borrow.Author.Rules.{rules}
-use Prim.Native.Nat.{◌-◌}
 use Rattle.strain.specs.Columns.{columns_none, columns_more, columns_all}
 use Rattle.inverse.specs.Factors.{solved_column}
 use Rattle.inverse.proofs.solve.Goals as goal

@@ -1,6 +1,5 @@
 -- `inverse::swap_rows` meets its contract. Two stores for each column; `swap_all` says what they come to. Assumes nothing.
 use borrow.Author.Rules.{rules}
-use Prim.Native.Nat.{◌-◌}
 use mathlib.Core.Path.{refl, ◌∙◌}
 use Rattle.loops.specs.Loops.{ran_none, ran_more, ran_all}
 use Rattle.inverse.specs.Pivot.{swap_all}

@@ -1,6 +1,5 @@
 -- `linalg::symmetric_eigen` meets its contract: what is to come of the state before each turn is what was to come of it at first, and a turn is a sweep.
 -- Assumes nothing.
-use Prim.Native.Nat.{◌-◌}
 use mathlib.Core.Path.{◌∙◌, ap}
 use borrow.Author.Rules.{rules}
 use Rattle.loops.specs.Loops.{coming_none, coming_more, coming_stop, coming_end}

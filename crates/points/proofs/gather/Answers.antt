@@ -1,6 +1,5 @@
 -- `points::gather` meets its contract. Assumes nothing.
 use native.Mathlib.Omega.{arith}
-use Prim.Native.Nat.{◌-◌}
 use Rattle.points.proofs.Moved.{gathered_more}
 use Rattle.points.proofs.gather.Goals as goal
 

@@ -1,6 +1,5 @@
 -- `points::scatter` meets its contract. Assumes nothing.
 use native.Mathlib.Omega.{arith}
-use Prim.Native.Nat.{◌-◌}
 use Rattle.points.proofs.Moved.{scattered_none, scattered_long, scattered_more, scattered_all}
 use Rattle.points.proofs.scatter.Goals as goal
 

@@ -1,13 +1,11 @@
 -- `real::signum` meets its contract. The sign of an f32 is its highest bit. Assumes nothing.
 -- past the first test x is a number
-use mathlib.Core.Path.{◌≡◌, refl}
-use mathlib.Core.Bool.{false, cond, not}
+use mathlib.Core.Path.{refl}
+use mathlib.Core.Bool.{not}
 use borrow.Author.Tests.{le-leb, lt-leb}
 use denote.Floats.{passes}
-use lib.Dec.{leb}
-use lib.Ieee.{binary32, fits, is_nan, neg, to_bits}
+use lib.Ieee.{binary32, fits, is_nan}
 use Rattle.root.specs.Floats.{is_nan_lem, is_number}
-use Rattle.real.specs.Float.{f1}
 use Rattle.real.specs.Real.{signum}
 use Rattle.real.specs.Sign.{by_sign_bit}
 use Rattle.real.proofs.signum.Goals as goal

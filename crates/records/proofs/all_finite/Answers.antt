@@ -1,5 +1,4 @@
 -- `records::all_finite` meets its contract: after each turn the answer so far, with what is left, is the whole. Assumes nothing.
-use Prim.Native.Nat.{◌-◌}
 use native.Mathlib.Omega.{arith}
 use Rattle.records.proofs.Finites.{sofar_none, sofar_more, sofar_all}
 use Rattle.records.proofs.all_finite.Goals as goal

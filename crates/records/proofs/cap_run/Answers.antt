@@ -1,5 +1,4 @@
 -- `records::cap_run` meets its contract: it stops at the first refusal of the run. Assumes nothing.
-use Prim.Native.Nat.{◌-◌}
 use native.Mathlib.Omega.{arith}
 use Rattle.records.proofs.Runs.{begins, again, refuses, ends}
 use Rattle.records.proofs.cap_run.Goals as goal

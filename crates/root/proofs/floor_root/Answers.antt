@@ -1,7 +1,5 @@
 -- `root::floor_root` meets its contract. Before each turn the digits above `bit` are settled (`Digits`). Assumes nothing.
-use Prim.Native.Nat.{◌-◌}
 use mathlib.Core.Path.{refl, ◌∙◌}
-use mathlib.Core.Logic.{⊎_elim}
 use borrow.Author.Rules.{rules}
 use borrow.Author.Tests.{le-leb, lt-leb}
 use Rattle.root.specs.Whole.{digits_none, digits_more, digits_all, tried_fits}

@@ -4,7 +4,7 @@ use borrow.Author.Tests.{eq-eqb, ne_eqb}
 use mathlib.Core.Path.{refl, ◌∙◌}
 use Prim.Native.Nat.{◌%◌}
 use Rattle.root.specs.Root.{sig, power}
-use Rattle.root.specs.Whole.{Moved, moved, moved_exact, moved_exact32}
+use Rattle.root.specs.Whole.{moved, moved_exact, moved_exact32}
 use borrow.Author.Rules.{rules}
 use Rattle.root.proofs.parts_of.Goals as goal
 

@@ -1,6 +1,6 @@
 -- `root::root` meets its contract. Each return is a case of the definition, by the tests that led to it. Assumes nothing.
-use mathlib.Core.Path.{◌≡◌, refl}
-use mathlib.Core.Bool.{false, not}
+use mathlib.Core.Path.{refl}
+use mathlib.Core.Bool.{not}
 use denote.Floats.{passes}
 use lib.Ieee.{is_nan, div, of_bits, nan_bits, binary32}
 use borrow.Author.Tests.{le-leb, lt-leb, eq-eqb, ne_eqb}

@@ -1,6 +1,5 @@
 -- `strain::add36` meets its contract. One store a turn. Assumes nothing.
 use borrow.Author.Rules.{rules}
-use Prim.Native.Nat.{◌-◌}
 use mathlib.Core.Path.{refl}
 use Rattle.loops.specs.Fill.{filled_none, filled_more, filled_all}
 use Rattle.strain.specs.Matrix.{add36}

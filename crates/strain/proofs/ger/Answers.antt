@@ -1,6 +1,5 @@
 -- `strain::ger` meets its contract. A column a turn. Assumes nothing.
 use borrow.Author.Rules.{rules}
-use Prim.Native.Nat.{◌-◌}
 use Rattle.strain.specs.Columns.{columns_none, columns_more, columns_all}
 use Rattle.strain.specs.Matrix.{ger}
 use Rattle.strain.proofs.ger.Goals as goal

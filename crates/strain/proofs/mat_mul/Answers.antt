@@ -1,6 +1,5 @@
 -- `strain::mat_mul` meets its contract. A column a turn. Assumes nothing.
 use borrow.Author.Rules.{rules}
-use Prim.Native.Nat.{◌-◌}
 use Rattle.strain.specs.Columns.{columns_none, columns_more, columns_all}
 use Rattle.strain.specs.Matrix.{mat_vec, mat_mul}
 use Rattle.strain.proofs.mat_mul.Goals as goal

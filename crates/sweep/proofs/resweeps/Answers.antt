@@ -1,5 +1,4 @@
 -- `sweep::resweeps` meets its contract. Assumes nothing.
-use Prim.Native.Nat.{◌-◌}
 use mathlib.Core.Path.{refl}
 use native.Mathlib.Omega.{arith}
 use Rattle.sweep.proofs.Turns.{again_begins, again_ready, again_again, again_ends}

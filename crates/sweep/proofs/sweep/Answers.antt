@@ -1,7 +1,6 @@
 -- `sweep::sweep` meets its contract. Assumes nothing.
 use Rattle.sweep.proofs.Apart.{turn_room, turn_long, turn_scalar, turn_says}
 use native.Mathlib.Omega.{arith}
-use Prim.Native.Nat.{◌-◌}
 use mathlib.Core.Path.{refl}
 use Rattle.sweep.proofs.Sweeps.{going_begins, going_stands, going_again, going_ends}
 use Rattle.sweep.proofs.sweep.Goals as goal

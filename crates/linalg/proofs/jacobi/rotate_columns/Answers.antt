@@ -1,5 +1,4 @@
 -- `linalg::jacobi::rotate_columns` meets its contract: a turn of the loop is a step of the definition. Assumes nothing.
-use Prim.Native.Nat.{◌-◌}
 use borrow.Author.Rules.{rules}
 use Rattle.loops.specs.Loops.{ran_none, ran_more, ran_all}
 use Rattle.linalg.specs.Eigen.{rotate_columns}

@@ -1,7 +1,6 @@
 -- `shape::rotation::extract_rotation` meets its contract. Before turn i what is still to come of q is the definition's answer. Assumes nothing.
 -- the code's test is the definition's
 use borrow.Author.Rules.{rules}
-use Prim.Native.Nat.{◌-◌}
 use mathlib.Core.Path.{◌≡◌}
 use mathlib.Core.Bool.{Bool}
 use lib.Ieee.{Float, lt}
