@@ -199,7 +199,7 @@ fn link(package: &Path, names: &[&str]) {
         let library = place.join(format!("lib{name}.a"));
         assert!(
             library.exists(),
-            "{}: not there; `rt staticlib {name}` makes it",
+            "{}: not there; `tools/staticlib {name}`, in the repository, makes it",
             library.display()
         );
         println!("cargo::rerun-if-changed={}", library.display());

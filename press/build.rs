@@ -11,7 +11,7 @@ fn main() {
     let library = place.join("librun.a");
     assert!(
         library.exists(),
-        "{}: not there; `rt staticlib run` makes it",
+        "{}: not there; `tools/staticlib run`, in the repository, makes it",
         library.display()
     );
     println!("cargo::rerun-if-changed={}", library.display());

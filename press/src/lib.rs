@@ -1,7 +1,7 @@
 //! Frames of a formed sheet: [`check`] and [`run`] of the proved library, safely, and what they say in words.
 //!
 //! A frame is a byte buffer of the caller's: a head, points and rows, described in docs/FORMAT.md. The library is
-//! `librun.a`, which `rt staticlib run` makes; build.rs looks for it in `RATTLE_LIB`, or in `../target/staticlib`. For C there is `include/formed_sheet.h`.
+//! `librun.a`, which `tools/staticlib run` makes; build.rs looks for it in `RATTLE_LIB`, or in `../target/staticlib`. For C there is `include/formed_sheet.h`.
 //!
 //! ```
 //! // A head without points and rows, and one byte too many.

@@ -1,53 +1,56 @@
--- What the kit prints of a number is `decimal` of it, and so has at most 20 digits; and what follows what in a buffer. Assumes nothing.
+-- The digits of a number, laid from the last to the first, are `decimal` of it, which has at most 20; and what follows what in a buffer. Assumes nothing.
 use mathlib.Core.Path.{◌≡◌, refl, sym, ap, ◌∙◌}
 use mathlib.Core.Bool.{Bool, true, false, cond}
-use mathlib.Core.List.{List, [], ◌∷◌, ◌++◌, append_assoc}
-use Prim.Native.Nat.{ℕ, zero, suc, ◌+◌, ◌-◌, ◌*◌, ◌/◌, ◌%◌, ◌^◌, ◌≤◌, ◌<◌}
-use native.Mathlib.Nat.{mod-lt, mod-eq_of_lt, div-lt_iff_lt-mul, le-div_iff_mul-le, one-le-pow, pow-suc, pow-le-pow_right}
+use mathlib.Core.List.{List, [], ◌∷◌, ◌++◌, append_assoc, append-nil}
+use Prim.Native.Nat.{ℕ, zero, suc, ◌+◌, ◌-◌, ◌/◌, ◌%◌, ◌^◌, ◌≤◌, ◌<◌}
+use native.Mathlib.Nat.{div-lt_iff_lt-mul, pow-suc}
+use native.Mathlib.Numerals.{add-one}
 use native.Mathlib.Omega.{arith}
-use lib.Dec.{ltb, leb, lit≤}
-use lib.ListN.{length, take, length-append}
-use borrow.Author.Tests.{lt-ltb, le-ltb, leb-true, leb-false}
-use Rattle.io.specs.Digits.{last_digits, hex_digit_ascii, IsDigitCount}
+use lib.Dec.{ltb}
+use lib.ListN.{length, take, drop, set, length-append}
+use Rattle.std.proofs.lemmas.List.{drop-set, drop_all}
+use borrow.Author.Tests.{lt-ltb, le-ltb}
 use Rattle.formrun.specs.Output.{decimal_in, decimal, refusal, refused_word, at_word, newline, Added}
 
--- the last digit
-glyph_is : (d : ℕ) → d < 10 → hex_digit_ascii d ≡ 48 + d
-glyph_is d h = rw (lt-ltb d 10 h)
-
--- k digits, the fewest that hold n, are what `decimal_in` has, where it is given as many or more
-spelled : (k f n : ℕ) → IsDigitCount 10 1 n k → k ≤ f → last_digits 10 k n ≡ decimal_in f n
-unfolding decimal_in
-spelled zero f n few fits = absurd (let z : 1 ≤ 0 = few.0 in omega arith)
-spelled (suc k) zero n few fits = absurd (omega arith)
-spelled (suc zero) (suc f) n few fits =
-    let small : n < 10 = few.1 in
-    rw (mod-eq_of_lt small, lt-ltb n 10 small)
-spelled (suc (suc k)) (suc f) n few fits =
-    let some : 1 ≤ 10 ^ k = one-le-pow k 10 (omega arith) in
-    let less : suc (suc k) - 1 ≡ suc k = omega arith in
-    let least : 10 ^ k * 10 ≤ n = rw (less, pow-suc 10 k) at (few.2 (omega arith)) in
-    let large : 10 ≤ n = omega arith in
-    let first : (1 ≤ suc k) × (n / 10 < 10 ^ suc k) × (1 < suc k → 10 ^ (suc k - 1) ≤ n / 10) =
-    (omega arith, (div-lt_iff_lt-mul {k = 10} {x = n} {y = 10 ^ suc k} (omega arith)).1 (rw (pow-suc 10 (suc k)) at few.1), λ _. let one : suc k - 1 ≡ k = omega arith in rw one ((le-div_iff_mul-le {k = 10} {x = 10 ^ k} {y = n} (omega arith)).1 least)) in
-    rw (le-ltb n 10 large, glyph_is (n % 10) (mod-lt n (omega arith)), spelled (suc k) f (n / 10) first (omega arith))
-
--- the fewest digits of a u64 are at most 20
-pub twenty : (k n : ℕ) → IsDigitCount 10 1 n k → n < 2 ^ 64 → k ≤ 20
-twenty k n few fits = pick (leb k 20) refl
-  where
-    pick : (b : Bool) → leb k 20 ≡ b → k ≤ 20
-    pick true e = leb-true k 20 e
-    pick false e =
-        let more : 20 < k = leb-false k 20 e in
-        let large : 10 ^ 20 ≤ 10 ^ (k - 1) = pow-le-pow_right {n = 10} (omega arith) {i = 20} {j = k - 1} (omega arith) in
-        let small : 10 ^ (k - 1) ≤ n = few.2 (omega arith) in
-        let wide : 2 ^ 64 ≤ 10 ^ 20 = lit≤ tt in
-        absurd (omega arith)
-
-pub decimal_is : (k n : ℕ) → IsDigitCount 10 1 n k → n < 2 ^ 64 → last_digits 10 k n ≡ decimal n
+-- at the beginning all digits are left to be laid
+pub begun : (n : ℕ) (text : List ℕ) → length text ≡ 20 → decimal n ≡ decimal_in 20 n ++ drop 20 text
 unfolding decimal
-decimal_is k n few fits = spelled k 20 n few (twenty k n few fits)
+begun n text long = rw (drop_all 20 text (omega arith), append-nil (decimal_in 20 n)) refl
+
+-- the last digit of rest goes before those that stand
+laid : (n k rest : ℕ) (text : List ℕ) → length text ≡ 20 → k < 20 → 10 ≤ rest → decimal n ≡ decimal_in (suc k) rest ++ drop (suc k) text
+    → decimal n ≡ decimal_in k (rest / 10) ++ drop k (set text k (48 + rest % 10))
+unfolding decimal_in
+laid n k rest text long room large holds =
+    let d : ℕ = 48 + rest % 10 in
+    let before : List ℕ = decimal_in k (rest / 10) in
+    let now : decimal n ≡ (before ++ (d ∷ [])) ++ drop (suc k) text = rw (le-ltb rest 10 large) at holds in
+    let set_in : drop k (set text k d) ≡ d ∷ drop (suc k) text = drop-set text k d (omega arith) ∙ ap (λ (i : ℕ). d ∷ drop i text) (add-one k) in
+    now ∙ append_assoc before (d ∷ []) (drop (suc k) text) ∙ ap (λ (l : List ℕ). before ++ l) (sym set_in)
+
+pub one_more : (n k rest : ℕ) (text : List ℕ) → length text ≡ 20 → 1 ≤ k → k ≤ 20 → rest < 10 ^ k → 10 ≤ rest → decimal n ≡ decimal_in k rest ++ drop k text
+    → (1 ≤ k - 1) × (rest / 10 < 10 ^ (k - 1)) × (decimal n ≡ decimal_in (k - 1) (rest / 10) ++ drop (k - 1) (set text (k - 1) (48 + rest % 10)))
+one_more n zero rest text long some most small large holds = absurd (omega arith)
+one_more n (suc zero) rest text long some most small large holds = absurd (omega arith)
+one_more n (suc (suc k)) rest text long some most small large holds =
+    let less : suc (suc k) - 1 ≡ suc k = omega arith in
+    rw less
+    (omega arith, (div-lt_iff_lt-mul {k = 10} {x = rest} {y = 10 ^ suc k} (omega arith)).1 (rw (pow-suc 10 (suc k)) at small), laid n (suc k) rest text long (omega arith) large holds)
+
+-- the first digit goes before all others
+first_laid : (n k rest : ℕ) (text : List ℕ) → length text ≡ 20 → k < 20 → rest < 10 → decimal n ≡ decimal_in (suc k) rest ++ drop (suc k) text
+    → drop k (set text k (48 + rest)) ≡ decimal n
+unfolding decimal_in
+first_laid n k rest text long room small holds =
+    let now : decimal n ≡ (48 + rest) ∷ drop (suc k) text = rw (lt-ltb rest 10 small) at holds in
+    drop-set text k (48 + rest) (omega arith) ∙ ap (λ (i : ℕ). (48 + rest) ∷ drop i text) (add-one k) ∙ sym now
+
+pub last_one : (n k rest : ℕ) (text : List ℕ) → length text ≡ 20 → 1 ≤ k → k ≤ 20 → rest < 10 → decimal n ≡ decimal_in k rest ++ drop k text
+    → drop (k - 1) (set text (k - 1) (48 + rest)) ≡ decimal n
+last_one n zero rest text long some most small holds = absurd (omega arith)
+last_one n (suc k) rest text long some most small holds =
+    let less : suc k - 1 ≡ k = omega arith in
+    rw less (first_laid n k rest text long (omega arith) small holds)
 
 at_most : (f n : ℕ) → length (decimal_in f n) ≤ f
 unfolding decimal_in

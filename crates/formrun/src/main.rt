@@ -1,53 +1,49 @@
 // formrun: reads a frame of at most 65,536 bytes from standard input and writes the frame after the run; a refused frame gives one line, longer input another.
 //
-// Proved: the bytes that `answer` lays at the start of the buffer are `output_of` of the bytes that stood there. Not covered: which bytes the C library's
-// `read` puts into a buffer and its `write` takes out of one. Their contracts, which are assumed, say how many, and no contract can say which; so that
-// `read_input` reads to the end, and that `serve` writes what `answer` laid, is seen by reading them.
-// A program has no exit status of its own: where a read or a write fails, a line on standard error says so, and the status is 0 all the same.
+// Proved: the bytes that `answer` lays at the start of the buffer are `output_of` of the bytes that stood there; and where it is known which bytes a reader gives
+// and a writer holds, `serve` reads to the end, or as far as decides, and has written `output_of` of what was there, unless a read or a write fails. Not covered:
+// which bytes the C library's `read` puts into a buffer and its `write` takes out of one: of standard input and output it is not known.
+// Where a read or a write fails, a line on standard error says so, and the status is 1; after a read that failed nothing is written.
 #![tactic(auto)]
 
-ghost use Rattle.std.specs.Prelude.{◌≡◌, ℕ, ◌+◌, ◌-◌, ◌≤◌, length, take};
-ghost use Rattle.formrun.specs.Reading.{Within, Kept};
+ghost use Rattle.std.specs.Prelude.{◌≡◌, ℕ, ◌+◌, ◌-◌, ◌≤◌, length, take, drop, OnOk, IfOk, IfSome};
+ghost use Rattle.std.specs.Io.KnownBytes.{ReadConsumes, Appends};
+ghost use Rattle.formrun.specs.Reading.{Within, Kept, Brought};
 ghost use Rattle.formrun.specs.Output.{output_of, refusal, decimal, Added};
+
+use std::io;
+use std::io::{Read, Write};
+
+// A frame has at most so many bytes.
+const MOST: usize = 65536;
 
 // One byte more than a frame may have: a buffer that is full shows that the input is too long.
 const ROOM: usize = 65537;
 
-// So many bytes, or a read that failed.
-#[derive(Clone, Copy)]
-enum Input {
-    Bytes(usize),
-    Failed,
-}
-
 // One read to the bytes of buf from `done` on: 0 bytes at the end of the input. What was read before stays.
-fn read_more(buf: &mut [u8], done: usize) -> Input
+fn read_more<R: Read>(input: &mut R, buf: &mut [u8], done: usize) -> io::Result<usize>
     requires { done ≤ length buf.old }
     ensures within { Within (length buf.old - done) result }
     ensures kept { Kept done buf.old buf.new }
+    ensures bytes { ReadConsumes (R.remaining input.old) (R.remaining input.new) result (drop done buf.new) }
 {
-    let got = libc::read(libc::STDIN_FILENO, &mut buf[done..]);
-    if got < 0 {
-        return Input::Failed;
-    }
-    Input::Bytes(io::count(got, &buf[done..]))
+    input.read(&mut buf[done..])
 }
 
 // Reads until the input ends or buf is full. A read may bring fewer bytes than there is room for.
-fn read_input(buf: &mut [u8]) -> Input
-    ensures { Within (length buf.old) result }
+fn read_input<R: Read>(input: &mut R, buf: &mut [u8]) -> io::Result<usize>
+    ensures within { Within (length buf.old) result }
+    ensures bytes { IfOk result (λ n. IfSome (R.remaining input.old) (Brought n buf.new)) }
 {
     let mut done: usize = 0;
     while done < buf.len() {
-        let Input::Bytes(n) = read_more(buf, done) else {
-            return Input::Failed;
-        };
+        let n = read_more(input, buf, done)?;
         if n == 0 {
-            return Input::Bytes(done);
+            return Ok(done);
         }
         done = done + n;
     }
-    Input::Bytes(done)
+    Ok(done)
 }
 
 // Lays text into buf from `at` on: the answer is where it ends.
@@ -63,13 +59,30 @@ fn put(buf: &mut [u8], at: usize, text: &[u8]) -> usize
     at + text.len()
 }
 
+// Lays the digits of n at the end of text: the answer is where they begin.
+fn digits(n: u64, text: &mut [u8; 20]) -> usize
+    ensures begins { result ≤ 20 }
+    ensures holds { drop result text.new ≡ decimal n }
+{
+    let mut k: usize = 20;
+    let mut rest = n;
+    while 10 <= rest {
+        k = k - 1;
+        text[k] = b'0' + (rest % 10) as u8;
+        rest = rest / 10;
+    }
+    k = k - 1;
+    text[k] = b'0' + rest as u8;
+    k
+}
+
 fn put_decimal(buf: &mut [u8], at: usize, n: u64) -> usize
     requires { at + 20 ≤ length buf.old }
     ensures { Added (decimal n) at buf.old result buf.new }
 {
     let mut text = [0u8; 20];
-    let k = io::decimal(n, &mut text);
-    put(buf, at, &text[..k])
+    let k = digits(n, &mut text);
+    put(buf, at, &text[k..])
 }
 
 // The line of a refusal, at the start of buf: the answer is its length.
@@ -89,7 +102,7 @@ fn answer(buf: &mut [u8], len: usize) -> usize
     requires { (len ≤ length buf.old) × (65537 ≤ length buf.old) }
     ensures { (result ≤ length buf.new) × (take result buf.new ≡ output_of (take len buf.old)) }
 {
-    if 65536 < len {
+    if MOST < len {
         return put(buf, 0, b"too long\n");
     }
     let a = run::run(&mut buf[..len]);
@@ -100,20 +113,16 @@ fn answer(buf: &mut [u8], len: usize) -> usize
 }
 
 // From the input to the output, by way of buf.
-fn serve(buf: &mut [u8])
+fn serve<R: Read, W: Write>(input: &mut R, output: &mut W, buf: &mut [u8]) -> io::Result<()>
     requires { 65537 ≤ length buf.old }
+    ensures { OnOk result (IfSome (R.remaining input.old) (λ xs. Appends (W.contents output.old) (W.contents output.new) (output_of xs))) }
 {
-    let Input::Bytes(len) = read_input(buf) else {
-        os::fail(b"formrun: standard input");
-        return;
-    };
+    let len = read_input(input, buf)?;
     let n = answer(buf, len);
-    if !io::write_all(libc::STDOUT_FILENO, &buf[..n]) {
-        os::fail(b"formrun: standard output");
-    }
+    output.write_all(&buf[..n])
 }
 
-fn main() {
+fn main(rt: HostRuntime) -> io::Result<()> {
     let mut buf = [0u8; ROOM];
-    serve(&mut buf);
+    serve(&mut rt.stdin(), &mut rt.stdout(), &mut buf)
 }

@@ -80,7 +80,7 @@ module _ (s : Bool) (m : ℕ) (e : ℤ) (h : T (fits binary32 (fin s (suc m) e))
       (lt_of_le_of_lt (le_of_eq (sym (placed (suc m) e fine)))
       (lt_of_lt_of_le more (le_of_eq (mul_right_comm (2 ^ 128) (down e) (2 ^ 149)))))
 
-  rounded : round binary32 s (suc m * up e) (down e) ≡ fin s (suc m) e
+  pub rounded : round binary32 s (suc m * up e) (down e) ≡ fin s (suc m) e
   rounded =
       same (round binary32 s (suc m * up e) (down e)) s (suc m) e (round-fits binary32 s (suc m * up e) (down e)) h
       (round_exact binary32 s (suc m * up e) (down e) (suc m) (place e) (down_pos e) short within_range (placed (suc m) e fine))
@@ -91,7 +91,7 @@ module _ (s : Bool) (m : ℕ) (e : ℤ) (h : T (fits binary32 (fin s (suc m) e))
 two_at_least : (k : ℕ) → 2 ^ suc k ≡ 1 → ⊥
 two_at_least k h = omega (arith, pow-succ' 2 k, pow_pos k)
 
-zero_place : (s : Bool) (e : ℤ) → T (fits binary32 (fin s 0 e)) → e ≡ pos 0
+pub zero_place : (s : Bool) (e : ℤ) → T (fits binary32 (fin s 0 e)) → e ≡ pos 0
 unfolding fits
 zero_place s (pos zero) h = refl
 zero_place s (pos (suc k)) h = absurd (two_at_least k (sym (mul-one (2 ^ suc k)) ∙ eqb→eq (2 ^ suc k * 1) 1 h))

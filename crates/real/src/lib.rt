@@ -1,7 +1,7 @@
 // Functions of one or two f32 that Rust has as methods, with the arithmetic of document 01, and the source's `inv`.
 #![tactic(auto)]
 
-ghost use Rattle.std.specs.Prelude.{◌≡◌, cond};
+ghost use Rattle.std.specs.Prelude.{◌≡◌, ◌*◌, ◌%◌, ◌^◌, cond};
 ghost use Rattle.std.specs.Float.Ieee.{is_nan};
 ghost use Rattle.real.specs.Real as spec;
 ghost use Rattle.real.specs.SinCos as sine;
@@ -76,10 +76,40 @@ pub struct SinCos {
     pub c: f32,
 }
 
+// What is left of n·2^k when 13176795 is taken off as often as it goes, by one doubling after the other.
+fn left_of(n: u32, k: u32) -> u32
+    ensures { result ≡ n * 2 ^ k % 13176795 }
+{
+    let mut r = n % 13176795;
+    let mut i: u32 = 0;
+    while i < k {
+        r = 2 * r % 13176795;
+        i += 1;
+    }
+    r
+}
+
+// x % 6.2831855, over whole numbers: a number that is no less than 4 is n·2^k units of 2^-21, and 6.2831855 is 13176795 of them. Rust's own `%` becomes a call
+// of the C library's `fmodf`, and a program that has one asks for a C library of version 2.38.
 pub fn rem_turn(x: f32) -> f32
     ensures { result ≡ sine.rem_turn x }
 {
-    x % 6.2831855
+    if x != x {
+        return x;
+    }
+    let b = f32::to_bits(x);
+    let power = b % 0x8000_0000 / 0x80_0000;
+    if power == 255 {
+        return x - x;
+    }
+    if power < 129 {
+        return x;
+    }
+    let r = left_of(0x80_0000 + b % 0x80_0000, power - 129);
+    if 0x8000_0000 <= b {
+        return r as f32 * -4.76837158203125e-7;
+    }
+    r as f32 * 4.76837158203125e-7
 }
 
 fn sin_cos_small(t: f32) -> SinCos

@@ -1,7 +1,7 @@
 -- What is counted of a file of records, and what of several files. What a file holds no contract can say: it is some list of bytes. Assumes nothing.
 use Rattle.std.specs.Prelude.{◌≡◌, ℕ, ◌+◌, ◌-◌, ◌*◌, ◌%◌, ◌^◌, ◌<◌, ◌≤◌, Bool, cond, List, [], ◌∷◌, length}
 use Rattle.std.proofs.Math.Path.{refl}
-use Rattle.std.proofs.Common.{ap, sym, ◌∙◌, add-mul, add-one, arith}
+use Rattle.std.proofs.Common.{add-mul, add-one, arith}
 use Rattle.loops.specs.Loops.{up_to}
 use Rattle.replay.specs.Words.{words_at}
 use Rattle.replay.specs.declared.file.Tally.{Tally}

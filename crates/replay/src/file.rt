@@ -1,8 +1,12 @@
 // Reading a file of records, and reporting on it.
 ghost use Rattle.std.specs.Prelude.{◌≡◌, ◌+◌, ◌*◌, ◌≤◌, length};
-ghost use Rattle.io.specs.Counts.{IsPrefixLen};
+ghost use Rattle.replay.specs.Counts.{IsPrefixLen};
 ghost use Rattle.replay.specs.Tallies.{plus};
 ghost use Rattle.replay.specs.Words.{words_at};
+
+use std::fs::Files;
+use std::io::{Print, Read, Write};
+use std::{fs, io};
 
 // How many records were replayed, and of how many the answer differs from what was stored.
 #[derive(Clone, Copy)]
@@ -21,14 +25,32 @@ pub fn add(t: Tally, u: Tally) -> Tally
     }
 }
 
-// Reads the file into `buf`, and answers how many bytes it put there: none where it is missing.
-pub fn read(name: &[u8], buf: &mut [u8]) -> usize
+// Reads the file into `buf`, and answers how many bytes it put there: none where it is missing or cannot be opened.
+pub fn read(rt: &impl Files, name: &[u8], buf: &mut [u8]) -> usize
     ensures { IsPrefixLen result buf.new }
 {
-    let fd = os::open_read(name);
-    let n = io::read_full(fd, buf);
-    libc::close(fd);
-    n
+    match std::str::from_utf8(name) {
+        Ok(path) => match fs::open(rt, path) {
+            Ok(mut file) => read_full(&mut file, buf),
+            Err(_) => 0,
+        },
+        Err(_) => 0,
+    }
+}
+
+// Reads until `buf` is full, the input ends or a read fails, and answers how many bytes it put at the start of `buf`.
+fn read_full(file: &mut impl Read, buf: &mut [u8]) -> usize
+    ensures { IsPrefixLen result buf.new }
+{
+    let mut done: usize = 0;
+    while done < buf.len() {
+        let n = file.read(&mut buf[done..]).unwrap_or(0);
+        if n == 0 {
+            break;
+        }
+        done = done + n;
+    }
+    done
 }
 
 // The `size` words from byte `from` on.
@@ -46,11 +68,8 @@ pub fn record(s: &[u8], from: usize, size: usize) -> [u32; 400]
 }
 
 // It only writes, which no contract can say.
-pub fn report(name: &[u8], t: Tally) {
-    io::write_all(1, name);
-    io::write_all(1, b": ");
-    io::print_decimal(1, t.records);
-    io::write_all(1, b" records, ");
-    io::print_decimal(1, t.differ);
-    io::write_all(1, b" differ\n");
+pub fn report(rt: &impl Print, name: &[u8], t: Tally) -> io::Result<()> {
+    let mut out = io::writer(rt);
+    out.write_all(name)?;
+    writeln!(out, ": {} records, {} differ", t.records, t.differ)
 }

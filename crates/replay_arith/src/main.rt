@@ -18,6 +18,9 @@ use of_shape::Shape;
 use of_strain::Strain;
 use of_vector::Vector;
 use replay::Tally;
+use std::fs::Files;
+use std::io;
+use std::io::Print;
 
 // A function of the arithmetic, by the module that calls it.
 #[derive(Clone, Copy)]
@@ -29,29 +32,30 @@ enum Function {
     Shape(Shape),
 }
 
-// It only writes, which no contract can say.
-fn main() {
+// It only writes, which no contract can say. The error is that of the last line, if it cannot be written.
+fn main(rt: HostRuntime) -> io::Result<()> {
     let t = Tally {
         records: 0,
         differ: 0,
     };
-    let t = of_real::all(t);
-    let t = of_vector::all(t);
-    let t = of_matrix::all(t);
-    let t = of_strain::all(t);
-    let t = of_shape::all(t);
-    replay::report(b"all", t);
+    let t = of_real::all(&rt, t);
+    let t = of_vector::all(&rt, t);
+    let t = of_matrix::all(&rt, t);
+    let t = of_strain::all(&rt, t);
+    let t = of_shape::all(&rt, t);
+    replay::report(&rt, b"all", t)
 }
 
-// Replays the file of a function, whose records have `size` words, and adds what came of it to `t`.
-fn replay_file(t: Tally, name: &[u8], f: Function, size: usize) -> Tally
+// Replays the file of a function, whose records have `size` words, and adds what came of it to `t`. A line that cannot be written is passed over: `main`
+// answers what came of the last one.
+fn replay_file(rt: &(impl Files + Print), t: Tally, name: &[u8], f: Function, size: usize) -> Tally
     requires { (1 ≤ size) × (size ≤ 400) }
     ensures { Replayed (agreed f) size t result }
 {
-    let mut buf = io::large_buffer();
-    let n = replay::read(name, &mut buf);
+    let mut buf = [0u8; 65536];
+    let n = replay::read(rt, name, &mut buf);
     let u = walk(&buf[..n], f, size);
-    replay::report(name, u);
+    let _ = replay::report(rt, name, u);
     replay::add(t, u)
 }
 

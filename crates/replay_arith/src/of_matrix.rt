@@ -5,6 +5,8 @@ ghost use Rattle.replay_arith.specs.OfMatrix as spec;
 
 use crate::{Function, replay_file};
 use replay::{Tally, float, float_is, mat3, mat3_is, quat, quat_is, vec3, vec3_is};
+use std::fs::Files;
+use std::io::Print;
 use vector::{matrix, quaternion};
 
 #[derive(Clone, Copy)]
@@ -23,25 +25,51 @@ pub(crate) enum Matrix {
 }
 
 // Each with the words of its records.
-pub(crate) fn all(t: Tally) -> Tally
+pub(crate) fn all(rt: &(impl Files + Print), t: Tally) -> Tally
     ensures { Through spec.files t result }
 {
-    let t = replay_file(t, b"mul_vec.bin", Function::Matrix(Matrix::MulVec), 15);
-    let t = replay_file(t, b"mul_mat.bin", Function::Matrix(Matrix::MulMat), 27);
-    let t = replay_file(t, b"add_mat.bin", Function::Matrix(Matrix::AddMat), 27);
-    let t = replay_file(t, b"sub_mat.bin", Function::Matrix(Matrix::SubMat), 27);
-    let t = replay_file(t, b"scale_mat.bin", Function::Matrix(Matrix::ScaleMat), 19);
-    let t = replay_file(t, b"transpose.bin", Function::Matrix(Matrix::Transpose), 18);
+    let t = replay_file(rt, t, b"mul_vec.bin", Function::Matrix(Matrix::MulVec), 15);
+    let t = replay_file(rt, t, b"mul_mat.bin", Function::Matrix(Matrix::MulMat), 27);
+    let t = replay_file(rt, t, b"add_mat.bin", Function::Matrix(Matrix::AddMat), 27);
+    let t = replay_file(rt, t, b"sub_mat.bin", Function::Matrix(Matrix::SubMat), 27);
     let t = replay_file(
+        rt,
+        t,
+        b"scale_mat.bin",
+        Function::Matrix(Matrix::ScaleMat),
+        19,
+    );
+    let t = replay_file(
+        rt,
+        t,
+        b"transpose.bin",
+        Function::Matrix(Matrix::Transpose),
+        18,
+    );
+    let t = replay_file(
+        rt,
         t,
         b"determinant.bin",
         Function::Matrix(Matrix::Determinant),
         10,
     );
-    let t = replay_file(t, b"product.bin", Function::Matrix(Matrix::Product), 12);
-    let t = replay_file(t, b"normalise.bin", Function::Matrix(Matrix::Normalise), 8);
-    let t = replay_file(t, b"to_matrix.bin", Function::Matrix(Matrix::ToMatrix), 13);
+    let t = replay_file(rt, t, b"product.bin", Function::Matrix(Matrix::Product), 12);
+    let t = replay_file(
+        rt,
+        t,
+        b"normalise.bin",
+        Function::Matrix(Matrix::Normalise),
+        8,
+    );
+    let t = replay_file(
+        rt,
+        t,
+        b"to_matrix.bin",
+        Function::Matrix(Matrix::ToMatrix),
+        13,
+    );
     replay_file(
+        rt,
         t,
         b"from_axis_angle.bin",
         Function::Matrix(Matrix::FromAxisAngle),

@@ -6,6 +6,8 @@ ghost use Rattle.replay_arith.specs.OfReal as spec;
 use crate::{Function, replay_file};
 use real::SinCos;
 use replay::{Tally, float, float_is};
+use std::fs::Files;
+use std::io::Print;
 
 #[derive(Clone, Copy)]
 pub(crate) enum Real {
@@ -21,18 +23,18 @@ pub(crate) enum Real {
 }
 
 // Each with the words of its records.
-pub(crate) fn all(t: Tally) -> Tally
+pub(crate) fn all(rt: &(impl Files + Print), t: Tally) -> Tally
     ensures { Through spec.files t result }
 {
-    let t = replay_file(t, b"root.bin", Function::Real(Real::Root), 2);
-    let t = replay_file(t, b"sin_cos.bin", Function::Real(Real::SinCos), 3);
-    let t = replay_file(t, b"acos.bin", Function::Real(Real::Acos), 2);
-    let t = replay_file(t, b"max.bin", Function::Real(Real::Max), 3);
-    let t = replay_file(t, b"clamp.bin", Function::Real(Real::Clamp), 4);
-    let t = replay_file(t, b"signum.bin", Function::Real(Real::Signum), 2);
-    let t = replay_file(t, b"abs.bin", Function::Real(Real::Abs), 2);
-    let t = replay_file(t, b"inv.bin", Function::Real(Real::Inv), 2);
-    replay_file(t, b"rem_turn.bin", Function::Real(Real::RemTurn), 2)
+    let t = replay_file(rt, t, b"root.bin", Function::Real(Real::Root), 2);
+    let t = replay_file(rt, t, b"sin_cos.bin", Function::Real(Real::SinCos), 3);
+    let t = replay_file(rt, t, b"acos.bin", Function::Real(Real::Acos), 2);
+    let t = replay_file(rt, t, b"max.bin", Function::Real(Real::Max), 3);
+    let t = replay_file(rt, t, b"clamp.bin", Function::Real(Real::Clamp), 4);
+    let t = replay_file(rt, t, b"signum.bin", Function::Real(Real::Signum), 2);
+    let t = replay_file(rt, t, b"abs.bin", Function::Real(Real::Abs), 2);
+    let t = replay_file(rt, t, b"inv.bin", Function::Real(Real::Inv), 2);
+    replay_file(rt, t, b"rem_turn.bin", Function::Real(Real::RemTurn), 2)
 }
 
 // Whether the function's answer to the record's first words is what stands after them.

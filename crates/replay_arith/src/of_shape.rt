@@ -7,6 +7,8 @@ use crate::{Function, replay_file};
 use linalg::Eigen;
 use replay::{Tally, float_is, four, four_are, mat3, mat3_is, quat, quat_is, vec3, vec3_is};
 use shape::{cell, rotation};
+use std::fs::Files;
+use std::io::Print;
 
 #[derive(Clone, Copy)]
 pub(crate) enum Shape {
@@ -20,41 +22,47 @@ pub(crate) enum Shape {
 }
 
 // Each with the words of its records.
-pub(crate) fn all(t: Tally) -> Tally
+pub(crate) fn all(rt: &(impl Files + Print), t: Tally) -> Tally
     ensures { Through spec.files t result }
 {
     let t = replay_file(
+        rt,
         t,
         b"symmetric_eigen.bin",
         Function::Shape(Shape::SymmetricEigen),
         21,
     );
-    let t = replay_file(t, b"cofactor.bin", Function::Shape(Shape::Cofactor), 18);
+    let t = replay_file(rt, t, b"cofactor.bin", Function::Shape(Shape::Cofactor), 18);
     let t = replay_file(
+        rt,
         t,
         b"outer_product.bin",
         Function::Shape(Shape::OuterProduct),
         15,
     );
     let t = replay_file(
+        rt,
         t,
         b"extract_rotation.bin",
         Function::Shape(Shape::ExtractRotation),
         17,
     );
     let t = replay_file(
+        rt,
         t,
         b"cell_volume.bin",
         Function::Shape(Shape::CellVolume),
         13,
     );
     let t = replay_file(
+        rt,
         t,
         b"cell_volume_gradients.bin",
         Function::Shape(Shape::CellVolumeGradients),
         24,
     );
     replay_file(
+        rt,
         t,
         b"cell_edge_matrix.bin",
         Function::Shape(Shape::CellEdgeMatrix),

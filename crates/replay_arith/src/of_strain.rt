@@ -5,6 +5,8 @@ ghost use Rattle.replay_arith.specs.OfStrain as spec;
 
 use crate::{Function, replay_file};
 use replay::{Tally, flat, flat_is, float, float_is, six, six_is};
+use std::fs::Files;
+use std::io::Print;
 
 #[derive(Clone, Copy)]
 pub(crate) enum Strain {
@@ -24,32 +26,41 @@ pub(crate) enum Strain {
 }
 
 // Each with the words of its records.
-pub(crate) fn all(t: Tally) -> Tally
+pub(crate) fn all(rt: &(impl Files + Print), t: Tally) -> Tally
     ensures { Through spec.files t result }
 {
-    let t = replay_file(t, b"add6.bin", Function::Strain(Strain::Add6), 18);
-    let t = replay_file(t, b"sub6.bin", Function::Strain(Strain::Sub6), 18);
-    let t = replay_file(t, b"scale6.bin", Function::Strain(Strain::Scale6), 13);
+    let t = replay_file(rt, t, b"add6.bin", Function::Strain(Strain::Add6), 18);
+    let t = replay_file(rt, t, b"sub6.bin", Function::Strain(Strain::Sub6), 18);
+    let t = replay_file(rt, t, b"scale6.bin", Function::Strain(Strain::Scale6), 13);
     let t = replay_file(
+        rt,
         t,
         b"component_mul6.bin",
         Function::Strain(Strain::ComponentMul6),
         18,
     );
-    let t = replay_file(t, b"dot6.bin", Function::Strain(Strain::Dot6), 13);
-    let t = replay_file(t, b"mat_vec.bin", Function::Strain(Strain::MatVec), 48);
-    let t = replay_file(t, b"mat_mul.bin", Function::Strain(Strain::MatMul), 108);
-    let t = replay_file(t, b"add36.bin", Function::Strain(Strain::Add36), 108);
-    let t = replay_file(t, b"scale36.bin", Function::Strain(Strain::Scale36), 73);
-    let t = replay_file(t, b"ger.bin", Function::Strain(Strain::Ger), 79);
+    let t = replay_file(rt, t, b"dot6.bin", Function::Strain(Strain::Dot6), 13);
+    let t = replay_file(rt, t, b"mat_vec.bin", Function::Strain(Strain::MatVec), 48);
+    let t = replay_file(rt, t, b"mat_mul.bin", Function::Strain(Strain::MatMul), 108);
+    let t = replay_file(rt, t, b"add36.bin", Function::Strain(Strain::Add36), 108);
+    let t = replay_file(rt, t, b"scale36.bin", Function::Strain(Strain::Scale36), 73);
+    let t = replay_file(rt, t, b"ger.bin", Function::Strain(Strain::Ger), 79);
     let t = replay_file(
+        rt,
         t,
         b"from_diagonal.bin",
         Function::Strain(Strain::FromDiagonal),
         42,
     );
-    let t = replay_file(t, b"identity6.bin", Function::Strain(Strain::Identity6), 36);
+    let t = replay_file(
+        rt,
+        t,
+        b"identity6.bin",
+        Function::Strain(Strain::Identity6),
+        36,
+    );
     replay_file(
+        rt,
         t,
         b"try_inverse.bin",
         Function::Strain(Strain::TryInverse),

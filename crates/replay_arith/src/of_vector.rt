@@ -5,6 +5,8 @@ ghost use Rattle.replay_arith.specs.OfVector as spec;
 
 use crate::{Function, replay_file};
 use replay::{Tally, float, float_is, vec3, vec3_is};
+use std::fs::Files;
+use std::io::Print;
 
 #[derive(Clone, Copy)]
 pub(crate) enum Vector {
@@ -21,29 +23,31 @@ pub(crate) enum Vector {
 }
 
 // Each with the words of its records.
-pub(crate) fn all(t: Tally) -> Tally
+pub(crate) fn all(rt: &(impl Files + Print), t: Tally) -> Tally
     ensures { Through spec.files t result }
 {
-    let t = replay_file(t, b"dot.bin", Function::Vector(Vector::Dot), 7);
-    let t = replay_file(t, b"cross.bin", Function::Vector(Vector::Cross), 9);
-    let t = replay_file(t, b"length.bin", Function::Vector(Vector::Length), 4);
+    let t = replay_file(rt, t, b"dot.bin", Function::Vector(Vector::Dot), 7);
+    let t = replay_file(rt, t, b"cross.bin", Function::Vector(Vector::Cross), 9);
+    let t = replay_file(rt, t, b"length.bin", Function::Vector(Vector::Length), 4);
     let t = replay_file(
+        rt,
         t,
         b"length_squared.bin",
         Function::Vector(Vector::LengthSquared),
         4,
     );
     let t = replay_file(
+        rt,
         t,
         b"element_sum.bin",
         Function::Vector(Vector::ElementSum),
         4,
     );
-    let t = replay_file(t, b"add.bin", Function::Vector(Vector::Add), 9);
-    let t = replay_file(t, b"sub.bin", Function::Vector(Vector::Sub), 9);
-    let t = replay_file(t, b"scale.bin", Function::Vector(Vector::Scale), 7);
-    let t = replay_file(t, b"divide.bin", Function::Vector(Vector::Divide), 7);
-    replay_file(t, b"neg.bin", Function::Vector(Vector::Neg), 6)
+    let t = replay_file(rt, t, b"add.bin", Function::Vector(Vector::Add), 9);
+    let t = replay_file(rt, t, b"sub.bin", Function::Vector(Vector::Sub), 9);
+    let t = replay_file(rt, t, b"scale.bin", Function::Vector(Vector::Scale), 7);
+    let t = replay_file(rt, t, b"divide.bin", Function::Vector(Vector::Divide), 7);
+    replay_file(rt, t, b"neg.bin", Function::Vector(Vector::Neg), 6)
 }
 
 // Whether the function's answer to the record's first words is what stands after them.

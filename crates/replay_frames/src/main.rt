@@ -2,20 +2,35 @@
 // which says how it is laid out.
 #![tactic(auto)]
 
-ghost use Rattle.std.specs.Prelude.{◌≡◌};
+ghost use Rattle.std.specs.Prelude.{◌≡◌, ◌≤◌, length};
 ghost use Rattle.replay_frames.specs.Entries as spec;
 
+use std::fs::File;
+use std::io;
+use std::io::Read;
+
 // It only writes, which no contract can say.
-fn main() {
-    let fd = os::open_read(b"frames");
-    if fd < 0 {
-        os::fail(b"frames");
-        return;
-    }
+fn main(rt: HostRuntime) -> io::Result<()> {
+    let mut file = File::open(&rt, "frames")?;
     let mut base = [0u8; 4096];
-    io::read_full(fd, &mut base);
-    let c = replay(fd, base);
-    report(c.tried, c.wrong);
+    read_full(&mut file, &mut base);
+    let c = replay(&mut file, base);
+    report(&rt, c.tried, c.wrong)
+}
+
+// Reads until buf is full, the file ends or a read fails: how many bytes it put at the start of buf.
+fn read_full(file: &mut File, buf: &mut [u8]) -> usize
+    ensures { result ≤ length buf.new }
+{
+    let mut done: usize = 0;
+    while done < buf.len() {
+        let n = file.read(&mut buf[done..]).unwrap_or(0);
+        if n == 0 {
+            return done;
+        }
+        done = done + n;
+    }
+    done
 }
 
 // How many entries were tried, and how many of them check answered otherwise.
@@ -25,13 +40,13 @@ struct Count {
     wrong: u32,
 }
 
-fn replay(fd: i32, base: [u8; 4096]) -> Count
+fn replay(file: &mut File, base: [u8; 4096]) -> Count
     ensures { spec.Counted base result.tried result.wrong }
 {
     let mut tried: u32 = 0;
     let mut wrong: u32 = 0;
     while tried < 65536 {
-        let got = one(fd, base);
+        let got = one(file, base);
         if got == 2 {
             break;
         }
@@ -44,19 +59,16 @@ fn replay(fd: i32, base: [u8; 4096]) -> Count
 }
 
 // It only writes, too.
-fn report(tried: u32, wrong: u32) {
-    io::print_decimal(1, tried as u64);
-    io::write_all(1, b" frames, ");
-    io::print_decimal(1, wrong as u64);
-    io::write_all(1, b" answered otherwise\n");
+fn report<P: Print>(rt: &P, tried: u32, wrong: u32) -> io::Result<()> {
+    println!(rt; "{tried} frames, {wrong} answered otherwise")
 }
 
 // 0 answered as stored, 1 otherwise, 2 no more
-fn one(fd: i32, base: [u8; 4096]) -> u8
+fn one(file: &mut File, base: [u8; 4096]) -> u8
     ensures { spec.Told base result }
 {
     let mut entry = [0u8; 22];
-    if io::read_full(fd, &mut entry) < 22 {
+    if read_full(file, &mut entry) < 22 {
         return 2;
     }
     if as_stored(base, &entry) { 0 } else { 1 }

@@ -7,28 +7,25 @@
 ghost use Rattle.std.specs.Prelude.{◌≡◌, false, ◌≤◌, length};
 ghost use Rattle.replay_runs.specs.Entries as spec;
 
+use std::fs::File;
+use std::io;
+use std::io::Read;
+
 // Frames of at most so many bytes are stored.
 const ROOM: usize = 40960;
 
 // It only writes, which no contract can say.
-fn main() {
-    let fd = os::open_read(b"runs");
-    if fd < 0 {
-        os::fail(b"runs");
-        return;
-    }
+fn main(rt: HostRuntime) -> io::Result<()> {
+    let mut file = File::open(&rt, "runs")?;
     let mut frame = [0u8; ROOM];
     let mut after = [0u8; ROOM];
-    let c = replay(fd, &mut frame, &mut after);
-    report(c.tried, c.wrong);
+    let c = replay(&mut file, &mut frame, &mut after);
+    report(&rt, c.tried, c.wrong)
 }
 
 // It only writes, too.
-fn report(tried: u32, wrong: u32) {
-    io::print_decimal(1, tried as u64);
-    io::write_all(1, b" frames, ");
-    io::print_decimal(1, wrong as u64);
-    io::write_all(1, b" end otherwise\n");
+fn report<P: Print>(rt: &P, tried: u32, wrong: u32) -> io::Result<()> {
+    println!(rt; "{tried} frames, {wrong} end otherwise")
 }
 
 // How many frames were run, and how many of them ended otherwise.
@@ -38,13 +35,13 @@ struct Count {
     wrong: u32,
 }
 
-fn replay(fd: i32, frame: &mut [u8], after: &mut [u8]) -> Count
+fn replay(file: &mut File, frame: &mut [u8], after: &mut [u8]) -> Count
     ensures { spec.Counted result.tried result.wrong }
 {
     let mut tried: u32 = 0;
     let mut wrong: u32 = 0;
     while tried < 65536 {
-        let got = one(fd, frame, after);
+        let got = one(file, frame, after);
         if got == 2 {
             break;
         }
@@ -57,18 +54,18 @@ fn replay(fd: i32, frame: &mut [u8], after: &mut [u8]) -> Count
 }
 
 // The next frame of the file: 0 it ends as stored, 1 otherwise, 2 there is no more, or none that fits into the two buffers.
-fn one(fd: i32, frame: &mut [u8], after: &mut [u8]) -> u8
+fn one(file: &mut File, frame: &mut [u8], after: &mut [u8]) -> u8
     ensures { spec.Told result }
 {
     let mut entry = [0u8; 12];
-    if io::read_full(fd, &mut entry) < 12 {
+    if read_full(file, &mut entry) < 12 {
         return 2;
     }
     let n = little_endian::get_u32(&entry, 0) as usize;
-    if lacks(fd, frame, n) {
+    if lacks(file, frame, n) {
         return 2;
     }
-    if lacks(fd, after, n) {
+    if lacks(file, after, n) {
         return 2;
     }
     let number = little_endian::get_u32(&entry, 4);
@@ -81,13 +78,28 @@ fn one(fd: i32, frame: &mut [u8], after: &mut [u8]) -> u8
 }
 
 // Reads n bytes to the start of buf: whether there are fewer, or no room for them.
-fn lacks(fd: i32, buf: &mut [u8], n: usize) -> bool
+fn lacks(file: &mut File, buf: &mut [u8], n: usize) -> bool
     ensures { result ≡ false → n ≤ length buf.new }
 {
     if buf.len() < n {
         return true;
     }
-    io::read_full(fd, &mut buf[..n]) < n
+    read_full(file, &mut buf[..n]) < n
+}
+
+// Reads until buf is full, the file ends or a read fails: how many bytes it put at the start of buf.
+fn read_full(file: &mut File, buf: &mut [u8]) -> usize
+    ensures { result ≤ length buf.new }
+{
+    let mut done: usize = 0;
+    while done < buf.len() {
+        let n = file.read(&mut buf[done..]).unwrap_or(0);
+        if n == 0 {
+            return done;
+        }
+        done = done + n;
+    }
+    done
 }
 
 // Whether check and run return this number and place for the frame, and run leaves these bytes.

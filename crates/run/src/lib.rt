@@ -24,16 +24,14 @@ fn main_turn(s: &[u8]) -> Turn
 }
 
 // Whether a frame would be run: the number and the place of the first test that it fails, or 0 at 0. Never writes.
-#[unsafe(no_mangle)]
-pub extern "C" fn check(s: &[u8]) -> Answer
+pub fn check(s: &[u8]) -> Answer
     ensures { result ≡ check_of s.now }
 {
     frame::check(s)
 }
 
 // The number and the place are check's. A refused frame is left as it was, to the last byte; an accepted one is left as the rules say.
-#[unsafe(no_mangle)]
-pub extern "C" fn run(s: &mut [u8]) -> Answer
+pub fn run(s: &mut [u8]) -> Answer
     ensures { (result ≡ answers s.old) × (s.new ≡ leaves s.old) }
 {
     let a = frame::check(s);

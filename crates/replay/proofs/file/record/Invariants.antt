@@ -1,0 +1,10 @@
+use Rattle.std.proofs.Common.{◌≡◌, ◌+◌, ◌-◌, ◌*◌, ◌≤◌, length, set, replicate}
+use Rattle.little_endian.specs.Bytes.{le32}
+use Rattle.loops.specs.Loops.{Ran}
+use Rattle.replay.proofs.file.record.Given as goal
+
+abbrev pub invariant-loop-k : goal.invariant-loop-k
+invariant-loop-k l = Ran l.size (λ k w. set w k (le32 l.s (l.from + 4 * k))) (replicate 400 0) l.k l.w × (length l.w ≡ 400) × (l.k ≤ l.size)
+
+abbrev pub decreases-loop-k : goal.decreases-loop-k
+decreases-loop-k l = l.size - l.k
