@@ -1,5 +1,5 @@
--- Demand 3, over any local steps: an accepted listing A and a relisting B of it, run alike, end with the same points and with the
--- same rows in each pair, however many sweeps are made.
+-- What demand 3 speaks of, over any local steps: an accepted listing A, and a relisting B of it. proofs/Relist.antt has that they, run alike, end with the same
+-- points and with the same rows in each pair.
 -- Assumes nothing.
 use Rattle.std.specs.Prelude.{◌≡◌, ◌≢◌, ◌⊎◌, ℕ, zero, suc, ◌≤◌, ◌<◌, List, length, get_or}
 use Rattle.std.proofs.Common.{subst, not-suc-le-zero, arith}
