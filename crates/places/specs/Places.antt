@@ -1,14 +1,23 @@
 -- A row has four places, each with the id of a point. What a place holds is fetched before a row function is called: no row function sees a frame. Definitions only. Assumes nothing.
-use Rattle.std.specs.Prelude.{cond}
+use Rattle.std.specs.Prelude.{ℕ, Float, Option, Some, None}
 use Rattle.vector.specs.declared.Vec3.{Vec3}
 use Rattle.vector.specs.declared.Four.{Four}
-use Rattle.places.specs.declared.Held.{Held}
-use Rattle.places.specs.declared.Holds.{Holds}
+
+-- a position or a velocity of each place that is named
+abbrev pub Holds : Type 0
+Holds = Four (Option Vec3)
+
+abbrev pub Ids : Type 0
+Ids = Four ℕ
+
+abbrev pub Masses : Type 0
+Masses = Four Float
 
 -- what the place holds where it is named, and the row's own value where it is skipped
-abbrev pub held_or : Held → Vec3 → Vec3
-held_or h v = cond h.named h.value v
+abbrev pub held_or : Option Vec3 → Vec3 → Vec3
+held_or (Some x) v = x
+held_or None v = v
 
 -- the row's positions anew: an id 0xFFFFFFFF, and a place past the row's count, leave the old one
-unfoldable pub refreshed : Holds → Four → Four
+unfoldable pub refreshed : Holds → Four Vec3 → Four Vec3
 refreshed h pos = record { a = held_or h.a pos.a; b = held_or h.b pos.b; c = held_or h.c pos.c; d = held_or h.d pos.d }

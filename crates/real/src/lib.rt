@@ -7,8 +7,8 @@ ghost use Rattle.real.specs.Real as spec;
 ghost use Rattle.real.specs.SinCos as sine;
 ghost use Rattle.real.specs.Acos as arc;
 
-// A choice between two numbers that are at hand: the callers have no branch.
-pub fn pick(b: bool, x: f32, y: f32) -> f32
+// A choice between two values that are at hand: the callers have no branch.
+pub fn pick<T: Copy>(b: bool, x: T, y: T) -> T
     ensures { result ≡ cond b x y }
 {
     if b { x } else { y }

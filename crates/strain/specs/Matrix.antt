@@ -2,6 +2,7 @@
 use Rattle.std.specs.Prelude.{ℕ, ◌+◌, ◌*◌, ◌/◌, ◌%◌, cond, List, [], ◌∷◌, eqb, Float}
 use Rattle.loops.specs.Fill.{tabulate}
 use Rattle.real.specs.Float.{◌⊕◌, ◌⊗◌, at, f0, f1}
+use Rattle.strain.specs.Parts.{add, scale}
 use Rattle.strain.specs.Six.{dot6}
 
 -- the entry in row i and column j
@@ -41,9 +42,8 @@ from_diagonal d = from_fn (λ i j. cond (eqb i j) (at d i) f0)
 unfoldable pub identity6 : List Float
 identity6 = from_fn (λ i j. cond (eqb i j) f1 f0)
 
--- part by part
-unfoldable pub add36 : List Float → List Float → List Float
-add36 a b = tabulate 36 (λ k. at a k ⊕ at b k)
+abbrev pub add36 : List Float → List Float → List Float
+add36 = add 36
 
-unfoldable pub scale36 : List Float → Float → List Float
-scale36 m s = tabulate 36 (λ k. at m k ⊗ s)
+abbrev pub scale36 : List Float → Float → List Float
+scale36 = scale 36

@@ -1,21 +1,21 @@
 -- Six-vectors, lists of six floats: one part for each strain row. Definitions only. Assumes nothing.
 use Rattle.std.specs.Prelude.{Bool, ◌&&◌, ◌||◌, List, Float}
 use Rattle.std.specs.Float.Ieee.{le, lt}
-use Rattle.loops.specs.Fill.{tabulate}
-use Rattle.real.specs.Float.{◌⊕◌, ◌⊖◌, ◌⊗◌, at}
+use Rattle.real.specs.Float.{◌⊕◌, ◌⊗◌, at}
 use Rattle.real.specs.Real.{abs}
+use Rattle.strain.specs.Parts.{add, sub, component_mul, scale}
 
-unfoldable pub add6 : List Float → List Float → List Float
-add6 a b = tabulate 6 (λ i. at a i ⊕ at b i)
+abbrev pub add6 : List Float → List Float → List Float
+add6 = add 6
 
-unfoldable pub sub6 : List Float → List Float → List Float
-sub6 a b = tabulate 6 (λ i. at a i ⊖ at b i)
+abbrev pub sub6 : List Float → List Float → List Float
+sub6 = sub 6
 
-unfoldable pub component_mul6 : List Float → List Float → List Float
-component_mul6 a b = tabulate 6 (λ i. at a i ⊗ at b i)
+abbrev pub component_mul6 : List Float → List Float → List Float
+component_mul6 = component_mul 6
 
-unfoldable pub scale6 : List Float → Float → List Float
-scale6 a s = tabulate 6 (λ i. at a i ⊗ s)
+abbrev pub scale6 : List Float → Float → List Float
+scale6 = scale 6
 
 -- the sum runs from index 0, the first product itself the start
 unfoldable pub dot6 : List Float → List Float → Float

@@ -1,59 +1,57 @@
 // Six-vectors and 6x6 matrices as flat arrays, a matrix column by column: entry (i, j) stands at j * 6 + i.
 #![tactic(auto)]
 
-ghost use Rattle.std.specs.Prelude.{◌≡◌, ◌<◌};
+ghost use Rattle.std.specs.Prelude.{◌≡◌, ◌<◌, length};
 ghost use Rattle.strain.specs.Columns as columns;
 ghost use Rattle.strain.specs.Matrix as matrix;
+ghost use Rattle.strain.specs.Parts as parts;
 ghost use Rattle.strain.specs.Six as six;
 
 use real::abs;
 
+// ---- lists of N floats, part by part: N is 6 for a strain, 36 for a matrix
+
+pub fn add<const N: usize>(a: &[f32; N], b: &[f32; N]) -> [f32; N]
+    ensures { result ≡ parts.add N a.now b.now }
+{
+    let mut r = [0.0f32; N];
+    for k in 0..N {
+        r[k] = a[k] + b[k];
+    }
+    r
+}
+
+pub fn sub<const N: usize>(a: &[f32; N], b: &[f32; N]) -> [f32; N]
+    ensures { result ≡ parts.sub N a.now b.now }
+{
+    let mut r = [0.0f32; N];
+    for k in 0..N {
+        r[k] = a[k] - b[k];
+    }
+    r
+}
+
+pub fn component_mul<const N: usize>(a: &[f32; N], b: &[f32; N]) -> [f32; N]
+    ensures { result ≡ parts.component_mul N a.now b.now }
+{
+    let mut r = [0.0f32; N];
+    for k in 0..N {
+        r[k] = a[k] * b[k];
+    }
+    r
+}
+
+pub fn scale<const N: usize>(a: &[f32; N], s: f32) -> [f32; N]
+    ensures { result ≡ parts.scale N a.now s }
+{
+    let mut r = [0.0f32; N];
+    for k in 0..N {
+        r[k] = a[k] * s;
+    }
+    r
+}
+
 // ---- six-vectors
-
-pub fn add6(a: &[f32; 6], b: &[f32; 6]) -> [f32; 6]
-    ensures { result ≡ six.add6 a.now b.now }
-{
-    [
-        a[0] + b[0],
-        a[1] + b[1],
-        a[2] + b[2],
-        a[3] + b[3],
-        a[4] + b[4],
-        a[5] + b[5],
-    ]
-}
-
-pub fn sub6(a: &[f32; 6], b: &[f32; 6]) -> [f32; 6]
-    ensures { result ≡ six.sub6 a.now b.now }
-{
-    [
-        a[0] - b[0],
-        a[1] - b[1],
-        a[2] - b[2],
-        a[3] - b[3],
-        a[4] - b[4],
-        a[5] - b[5],
-    ]
-}
-
-pub fn component_mul6(a: &[f32; 6], b: &[f32; 6]) -> [f32; 6]
-    ensures { result ≡ six.component_mul6 a.now b.now }
-{
-    [
-        a[0] * b[0],
-        a[1] * b[1],
-        a[2] * b[2],
-        a[3] * b[3],
-        a[4] * b[4],
-        a[5] * b[5],
-    ]
-}
-
-pub fn scale6(a: &[f32; 6], s: f32) -> [f32; 6]
-    ensures { result ≡ six.scale6 a.now s }
-{
-    [a[0] * s, a[1] * s, a[2] * s, a[3] * s, a[4] * s, a[5] * s]
-}
 
 pub fn dot6(a: &[f32; 6], b: &[f32; 6]) -> f32
     ensures { result ≡ six.dot6 a.now b.now }
@@ -209,24 +207,4 @@ pub fn identity6() -> [f32; 36]
     ensures { result ≡ matrix.identity6 }
 {
     from_diagonal(&[1.0f32; 6])
-}
-
-pub fn add36(a: &[f32; 36], b: &[f32; 36]) -> [f32; 36]
-    ensures { result ≡ matrix.add36 a.now b.now }
-{
-    let mut r = [0.0f32; 36];
-    for k in 0usize..36 {
-        r[k] = a[k] + b[k];
-    }
-    r
-}
-
-pub fn scale36(m: &[f32; 36], s: f32) -> [f32; 36]
-    ensures { result ≡ matrix.scale36 m.now s }
-{
-    let mut r = [0.0f32; 36];
-    for k in 0usize..36 {
-        r[k] = m[k] * s;
-    }
-    r
 }

@@ -4,6 +4,11 @@ use Rattle.std.specs.Prelude.{Float}
 use Rattle.real.specs.Float.{◌⊕◌, ◌⊖◌, ◌⊗◌, ◌⊘◌, f0}
 use Rattle.root.specs.Root.{root_of}
 use Rattle.vector.specs.declared.Vec3.{Vec3}
+use Rattle.vector.specs.declared.Four.{Four}
+
+-- the same value for each of the four
+abbrev pub splat : {T : Type 0} → T → Four T
+splat x = record { a = x; b = x; c = x; d = x }
 
 unfoldable pub zero_vector : Vec3
 zero_vector = record { x = f0; y = f0; z = f0 }

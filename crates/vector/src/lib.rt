@@ -1,4 +1,5 @@
-// Vectors here, 3x3 matrices and quaternions in modules: structs of floats, by value. The order of operations is document 01's.
+// Vectors here, 3x3 matrices and quaternions in modules: structs of floats, by value, with the operators and methods that the Rust source uses. Each part is
+// computed in the source's order.
 #![tactic(auto)]
 
 pub mod matrix; // 3x3 matrices by columns
@@ -6,6 +7,8 @@ pub mod quaternion; // rotations
 
 ghost use Rattle.std.specs.Prelude.{◌≡◌};
 ghost use Rattle.vector.specs.Vector as spec;
+
+use std::ops::{Add, Div, Mul, Neg, Sub};
 
 #[repr(C)]
 #[derive(Clone, Copy)]
@@ -15,14 +18,13 @@ pub struct Vec3 {
     pub z: f32,
 }
 
-// A vector for each of the four particles that a row can name, particle 0 first.
-#[repr(C)]
+// A value for each of the four particles that a row can name, particle 0 first.
 #[derive(Clone, Copy)]
-pub struct Four {
-    pub a: Vec3,
-    pub b: Vec3,
-    pub c: Vec3,
-    pub d: Vec3,
+pub struct Four<T> {
+    pub a: T,
+    pub b: T,
+    pub c: T,
+    pub d: T,
 }
 
 // Three columns.
@@ -44,96 +46,143 @@ pub struct Quat {
     pub w: f32,
 }
 
-pub fn zero_vector() -> Vec3
-    ensures { result ≡ spec.zero_vector }
-{
-    Vec3 {
-        x: 0.0,
-        y: 0.0,
-        z: 0.0,
+impl<T: Copy> Four<T> {
+    // The same value four times.
+    pub fn splat(value: T) -> Four<T>
+        ensures { result ≡ spec.splat value }
+    {
+        Four {
+            a: value,
+            b: value,
+            c: value,
+            d: value,
+        }
     }
 }
 
-pub fn add(a: Vec3, b: Vec3) -> Vec3
-    ensures { result ≡ spec.add a b }
-{
-    Vec3 {
-        x: a.x + b.x,
-        y: a.y + b.y,
-        z: a.z + b.z,
+impl Vec3 {
+    #[tactic(auto, unfolding(crate::specs::Vector::zero_vector))]
+    pub fn zero() -> Vec3
+        ensures { result ≡ spec.zero_vector }
+    {
+        Vec3 {
+            x: 0.0,
+            y: 0.0,
+            z: 0.0,
+        }
+    }
+
+    #[tactic(auto, unfolding(crate::specs::Vector::dot))]
+    pub fn dot(self, b: Vec3) -> f32
+        ensures { result ≡ spec.dot self b }
+    {
+        self.x * b.x + self.y * b.y + self.z * b.z
+    }
+
+    #[tactic(auto, unfolding(crate::specs::Vector::cross))]
+    pub fn cross(self, b: Vec3) -> Vec3
+        ensures { result ≡ spec.cross self b }
+    {
+        Vec3 {
+            x: self.y * b.z - b.y * self.z,
+            y: self.z * b.x - b.z * self.x,
+            z: self.x * b.y - b.x * self.y,
+        }
+    }
+
+    #[tactic(auto, unfolding(crate::specs::Vector::element_sum))]
+    pub fn element_sum(self) -> f32
+        ensures { result ≡ spec.element_sum self }
+    {
+        self.x + self.y + self.z
+    }
+
+    #[tactic(auto, unfolding(crate::specs::Vector::length_squared))]
+    pub fn length_squared(self) -> f32
+        ensures { result ≡ spec.length_squared self }
+    {
+        self.dot(self)
+    }
+
+    #[tactic(auto, unfolding(crate::specs::Vector::length_of))]
+    pub fn length(self) -> f32
+        ensures { result ≡ spec.length_of self }
+    {
+        root::root(self.dot(self))
     }
 }
 
-pub fn sub(a: Vec3, b: Vec3) -> Vec3
-    ensures { result ≡ spec.sub a b }
-{
-    Vec3 {
-        x: a.x - b.x,
-        y: a.y - b.y,
-        z: a.z - b.z,
+impl Add for Vec3 {
+    type Output = Vec3;
+
+    ghost add_gives = { λ a b r. r ≡ spec.add a b };
+
+    #[tactic(auto, unfolding(crate::specs::Vector::add))]
+    fn add(self, b: Vec3) -> Vec3 {
+        Vec3 {
+            x: self.x + b.x,
+            y: self.y + b.y,
+            z: self.z + b.z,
+        }
     }
 }
 
-pub fn neg(a: Vec3) -> Vec3
-    ensures { result ≡ spec.neg a }
-{
-    Vec3 {
-        x: -a.x,
-        y: -a.y,
-        z: -a.z,
+impl Sub for Vec3 {
+    type Output = Vec3;
+
+    ghost sub_gives = { λ a b r. r ≡ spec.sub a b };
+
+    #[tactic(auto, unfolding(crate::specs::Vector::sub))]
+    fn sub(self, b: Vec3) -> Vec3 {
+        Vec3 {
+            x: self.x - b.x,
+            y: self.y - b.y,
+            z: self.z - b.z,
+        }
     }
 }
 
-pub fn scale(a: Vec3, k: f32) -> Vec3
-    ensures { result ≡ spec.scale a k }
-{
-    Vec3 {
-        x: a.x * k,
-        y: a.y * k,
-        z: a.z * k,
+impl Neg for Vec3 {
+    type Output = Vec3;
+
+    ghost neg_gives = { λ a r. r ≡ spec.neg a };
+
+    #[tactic(auto, unfolding(crate::specs::Vector::neg))]
+    fn neg(self) -> Vec3 {
+        Vec3 {
+            x: -self.x,
+            y: -self.y,
+            z: -self.z,
+        }
     }
 }
 
-pub fn divide(a: Vec3, k: f32) -> Vec3
-    ensures { result ≡ spec.divide a k }
-{
-    Vec3 {
-        x: a.x / k,
-        y: a.y / k,
-        z: a.z / k,
+impl Mul<f32> for Vec3 {
+    type Output = Vec3;
+
+    ghost mul_gives = { λ a k r. r ≡ spec.scale a k };
+
+    #[tactic(auto, unfolding(crate::specs::Vector::scale))]
+    fn mul(self, k: f32) -> Vec3 {
+        Vec3 {
+            x: self.x * k,
+            y: self.y * k,
+            z: self.z * k,
+        }
     }
 }
 
-pub fn dot(a: Vec3, b: Vec3) -> f32
-    ensures { result ≡ spec.dot a b }
-{
-    a.x * b.x + a.y * b.y + a.z * b.z
-}
+impl Div<f32> for Vec3 {
+    type Output = Vec3;
 
-pub fn cross(a: Vec3, b: Vec3) -> Vec3
-    ensures { result ≡ spec.cross a b }
-{
-    Vec3 {
-        x: a.y * b.z - b.y * a.z,
-        y: a.z * b.x - b.z * a.x,
-        z: a.x * b.y - b.x * a.y,
+    ghost div_gives = { λ a k r. r ≡ spec.divide a k };
+
+    #[tactic(auto, unfolding(crate::specs::Vector::divide))]
+    fn div(self, k: f32) -> Vec3 {
+        Vec3 {
+            x: self.x / k,
+            y: self.y / k,
+            z: self.z / k,
+        }
     }
-}
-
-pub fn element_sum(a: Vec3) -> f32
-    ensures { result ≡ spec.element_sum a }
-{
-    a.x + a.y + a.z
-}
-
-pub fn length_squared(a: Vec3) -> f32
-    ensures { result ≡ spec.length_squared a }
-{
-    dot(a, a)
-}
-
-pub fn length(a: Vec3) -> f32
-    ensures { result ≡ spec.length_of a }
-{
-    root::root(dot(a, a))
 }
