@@ -24,7 +24,7 @@ length-put_vec3 b k v =
     ∙ length-put_f32 (put_f32 b k v.x) (k + 4) v.y
     ∙ length-put_f32 b k v.x
 
-pub length-put_four : (b : List ℕ) (k : ℕ) (v : Four) → length (put_four b k v) ≡ length b
+pub length-put_four : (b : List ℕ) (k : ℕ) (v : Four Vec3) → length (put_four b k v) ≡ length b
 unfolding put_four
 length-put_four b k v = simp length-put_vec3
 

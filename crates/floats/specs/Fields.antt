@@ -8,15 +8,14 @@ use Rattle.vector.specs.declared.Vec3.{Vec3}
 use Rattle.vector.specs.declared.Mat3.{Mat3}
 use Rattle.vector.specs.declared.Quat.{Quat}
 use Rattle.vector.specs.declared.Four.{Four}
-use Rattle.places.specs.declared.Ids.{Ids}
-use Rattle.places.specs.declared.Masses.{Masses}
+use Rattle.places.specs.Places.{Ids, Masses}
 
 -- ---- read
 
 unfoldable pub vec3_at : List ℕ → ℕ → Vec3
 vec3_at b k = record { x = f32_at b k; y = f32_at b (k + 4); z = f32_at b (k + 8) }
 
-unfoldable pub four_at : List ℕ → ℕ → Four
+unfoldable pub four_at : List ℕ → ℕ → Four Vec3
 four_at b k = record { a = vec3_at b k; b = vec3_at b (k + 12); c = vec3_at b (k + 24); d = vec3_at b (k + 36) }
 
 -- column by column
@@ -32,6 +31,10 @@ masses_at b k = record { a = f32_at b k; b = f32_at b (k + 4); c = f32_at b (k +
 unfoldable pub ids_at : List ℕ → ℕ → Ids
 ids_at b k = record { a = le32 b k; b = le32 b (k + 4); c = le32 b (k + 8); d = le32 b (k + 12) }
 
+-- four that stand one after another, each of n bytes
+abbrev pub four_of : {T : Type 0} → (List ℕ → ℕ → T) → ℕ → List ℕ → ℕ → Four T
+four_of read n b k = record { a = read b k; b = read b (k + n); c = read b (k + 2 * n); d = read b (k + 3 * n) }
+
 -- n floats
 unfoldable pub floats_at : ℕ → List ℕ → ℕ → List Float
 floats_at n b k = tabulate n (λ i. f32_at b (k + 4 * i))
@@ -44,7 +47,7 @@ put_f32 b k x = patch b k (f32_bytes x)
 unfoldable pub put_vec3 : List ℕ → ℕ → Vec3 → List ℕ
 put_vec3 b k v = put_f32 (put_f32 (put_f32 b k v.x) (k + 4) v.y) (k + 8) v.z
 
-unfoldable pub put_four : List ℕ → ℕ → Four → List ℕ
+unfoldable pub put_four : List ℕ → ℕ → Four Vec3 → List ℕ
 put_four b k v = put_vec3 (put_vec3 (put_vec3 (put_vec3 b k v.a) (k + 12) v.b) (k + 24) v.c) (k + 36) v.d
 
 unfoldable pub put_mat3 : List ℕ → ℕ → Mat3 → List ℕ
@@ -55,3 +58,6 @@ put_quat b k q = put_f32 (put_f32 (put_f32 (put_f32 b k q.x) (k + 4) q.y) (k + 8
 
 unfoldable pub put_floats : ℕ → List ℕ → ℕ → List Float → List ℕ
 put_floats n b k l = up_to n (λ i s. put_f32 s (k + 4 * i) (at l i)) b
+
+abbrev pub put_four_of : {T : Type 0} → (List ℕ → ℕ → T → List ℕ) → ℕ → List ℕ → ℕ → Four T → List ℕ
+put_four_of put n b k v = put (put (put (put b k v.a) (k + n) v.b) (k + 2 * n) v.c) (k + 3 * n) v.d

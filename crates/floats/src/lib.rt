@@ -1,20 +1,23 @@
 // Vectors, matrices and lists of floats at a byte of a record, read and put in place.
 #![tactic(auto)]
 
-ghost use Rattle.std.specs.Prelude.{◌≡◌, ℕ, ◌+◌, ◌*◌, ◌≤◌, length};
+ghost use Rattle.std.specs.Prelude.{◌≡◌, ℕ, ◌+◌, ◌*◌, ◌%◌, ◌≤◌, List, Float, length, refl};
 ghost use Rattle.std.specs.Float.{binary32};
 ghost use Rattle.std.specs.Float.Ieee.{of_bits};
 ghost use Rattle.little_endian.specs.Bytes.{f32_at};
 ghost use Rattle.floats.specs.Fields as spec;
 ghost use Rattle.floats.specs.Written.{Written, Reads, Stays};
 
+pub mod row_bytes;
+
 use little_endian::{get_f32, get_u32};
-use places::{Ids, Masses};
+use places::Ids;
 use vector::{Four, Mat3, Quat, Vec3};
 
-// ---- read
+// ---- read from any bytes
 
-// From any bytes, as those of a point.
+// The vector of a point.
+#[tactic(auto, unfolding(crate::specs::Fields::vec3_at))]
 pub fn vec3_at(b: &[u8], k: usize) -> Vec3
     requires { k + 12 ≤ length b.now }
     ensures { result ≡ spec.vec3_at b.now k }
@@ -26,9 +29,51 @@ pub fn vec3_at(b: &[u8], k: usize) -> Vec3
     }
 }
 
-// ---- read from a row's record. Its floats are as put_f32 writes them: of a NaN's patterns there is one. A test for it gives what is there
-// already, so that nothing is left of it in the program, where a test for all of them costs as much as the rest of the reading.
+// The ids of a row: numbers, so that nothing is asked of their bytes.
+#[tactic(auto, unfolding(crate::specs::Fields::ids_at))]
+pub fn ids_at(b: &[u8], k: usize) -> Ids
+    requires { k + 16 ≤ length b.now }
+    ensures { result ≡ spec.ids_at b.now k }
+{
+    Four {
+        a: get_u32(b, k),
+        b: get_u32(b, k + 4),
+        c: get_u32(b, k + 8),
+        d: get_u32(b, k + 12),
+    }
+}
 
+// ---- a row's record. Its floats are as they are put: of a NaN's patterns there is one.
+
+// What stands in a row's record as one float after another.
+pub trait Field: Copy {
+    ghost floats: { ℕ };
+
+    ghost read: { List ℕ → ℕ → Self };
+
+    ghost written: { List ℕ → ℕ → Self → List ℕ };
+
+    fn get(b: &[u8], k: usize) -> Self
+        requires { Reads (4 * floats) k b.now }
+        ensures { result ≡ read b.now k };
+
+    // What the record then holds is still as floats are put.
+    fn put(self, b: &mut [u8], k: usize)
+        requires { k + 4 * floats ≤ length b.old }
+        ensures { (b.new ≡ written b.old k self) × Stays k b.old b.new };
+}
+
+// A field of which several stand one after another.
+pub trait Element: Field {
+    ghost FLOATS: { ℕ };
+
+    const FLOATS: usize;
+
+    ghost counted: { Self.floats ≡ FLOATS };
+}
+
+// A test for a NaN's one pattern gives what is there already, so that nothing is left of it in the program, where a test for all patterns
+// costs as much as the rest of the reading.
 fn of_written(n: u32) -> f32
     requires { Written n }
     ensures { result ≡ of_bits binary32 n }
@@ -39,181 +84,157 @@ fn of_written(n: u32) -> f32
     f32::from_bits(n)
 }
 
-pub fn f32_at(b: &[u8], k: usize) -> f32
-    requires { Reads 4 k b.now }
-    ensures { result ≡ f32_at b.now k }
-{
-    of_written(get_u32(b, k))
-}
+impl Field for f32 {
+    ghost floats = { 1 };
 
-fn row_vec3_at(b: &[u8], k: usize) -> Vec3
-    requires { Reads 12 k b.now }
-    ensures { result ≡ spec.vec3_at b.now k }
-{
-    Vec3 {
-        x: f32_at(b, k),
-        y: f32_at(b, k + 4),
-        z: f32_at(b, k + 8),
+    ghost read = { f32_at };
+
+    ghost written = { spec.put_f32 };
+
+    fn get(b: &[u8], k: usize) -> f32 {
+        of_written(get_u32(b, k))
+    }
+
+    fn put(self, b: &mut [u8], k: usize) {
+        little_endian::put_f32(b, k, self);
     }
 }
 
-pub fn four_at(b: &[u8], k: usize) -> Four
-    requires { Reads 48 k b.now }
-    ensures { result ≡ spec.four_at b.now k }
-{
-    Four {
-        a: row_vec3_at(b, k),
-        b: row_vec3_at(b, k + 12),
-        c: row_vec3_at(b, k + 24),
-        d: row_vec3_at(b, k + 36),
+impl Element for f32 {
+    ghost FLOATS = { 1 };
+
+    const FLOATS: usize = 1;
+
+    ghost counted = { refl };
+}
+
+impl Field for Vec3 {
+    ghost floats = { 3 };
+
+    ghost read = { spec.vec3_at };
+
+    ghost written = { spec.put_vec3 };
+
+    #[tactic(auto, unfolding(crate::specs::Fields::vec3_at))]
+    fn get(b: &[u8], k: usize) -> Vec3 {
+        Vec3 {
+            x: f32::get(b, k),
+            y: f32::get(b, k + 4),
+            z: f32::get(b, k + 8),
+        }
+    }
+
+    #[tactic(auto, unfolding(crate::specs::Fields::put_vec3))]
+    fn put(self, b: &mut [u8], k: usize) {
+        let Vec3 { x, y, z } = self;
+        x.put(b, k);
+        y.put(b, k + 4);
+        z.put(b, k + 8);
     }
 }
 
-pub fn mat3_at(b: &[u8], k: usize) -> Mat3
-    requires { Reads 36 k b.now }
-    ensures { result ≡ spec.mat3_at b.now k }
-{
-    Mat3 {
-        x: row_vec3_at(b, k),
-        y: row_vec3_at(b, k + 12),
-        z: row_vec3_at(b, k + 24),
+impl Element for Vec3 {
+    ghost FLOATS = { 3 };
+
+    const FLOATS: usize = 3;
+
+    ghost counted = { refl };
+}
+
+impl Field for Mat3 {
+    ghost floats = { 9 };
+
+    ghost read = { spec.mat3_at };
+
+    ghost written = { spec.put_mat3 };
+
+    #[tactic(auto, unfolding(crate::specs::Fields::mat3_at))]
+    fn get(b: &[u8], k: usize) -> Mat3 {
+        Mat3 {
+            x: Vec3::get(b, k),
+            y: Vec3::get(b, k + 12),
+            z: Vec3::get(b, k + 24),
+        }
+    }
+
+    #[tactic(auto, unfolding(crate::specs::Fields::put_mat3))]
+    fn put(self, b: &mut [u8], k: usize) {
+        self.x.put(b, k);
+        self.y.put(b, k + 12);
+        self.z.put(b, k + 24);
     }
 }
 
-pub fn quat_at(b: &[u8], k: usize) -> Quat
-    requires { Reads 16 k b.now }
-    ensures { result ≡ spec.quat_at b.now k }
-{
-    Quat {
-        x: f32_at(b, k),
-        y: f32_at(b, k + 4),
-        z: f32_at(b, k + 8),
-        w: f32_at(b, k + 12),
+impl Field for Quat {
+    ghost floats = { 4 };
+
+    ghost read = { spec.quat_at };
+
+    ghost written = { spec.put_quat };
+
+    #[tactic(auto, unfolding(crate::specs::Fields::quat_at))]
+    fn get(b: &[u8], k: usize) -> Quat {
+        Quat {
+            x: f32::get(b, k),
+            y: f32::get(b, k + 4),
+            z: f32::get(b, k + 8),
+            w: f32::get(b, k + 12),
+        }
+    }
+
+    #[tactic(auto, unfolding(crate::specs::Fields::put_quat))]
+    fn put(self, b: &mut [u8], k: usize) {
+        self.x.put(b, k);
+        self.y.put(b, k + 4);
+        self.z.put(b, k + 8);
+        self.w.put(b, k + 12);
     }
 }
 
-pub fn masses_at(b: &[u8], k: usize) -> Masses
-    requires { Reads 16 k b.now }
-    ensures { result ≡ spec.masses_at b.now k }
-{
-    Masses {
-        a: f32_at(b, k),
-        b: f32_at(b, k + 4),
-        c: f32_at(b, k + 8),
-        d: f32_at(b, k + 12),
+impl<T: Element> Field for Four<T> {
+    ghost floats = { 4 * T.floats };
+
+    ghost read = { spec.four_of T.read (4 * T.floats) };
+
+    ghost written = { spec.put_four_of T.written (4 * T.floats) };
+
+    fn get(b: &[u8], k: usize) -> Four<T> {
+        let w = 4 * T::FLOATS;
+        Four {
+            a: T::get(b, k),
+            b: T::get(b, k + w),
+            c: T::get(b, k + 2 * w),
+            d: T::get(b, k + 3 * w),
+        }
+    }
+
+    fn put(self, b: &mut [u8], k: usize) {
+        let w = 4 * T::FLOATS;
+        self.a.put(b, k);
+        self.b.put(b, k + w);
+        self.c.put(b, k + 2 * w);
+        self.d.put(b, k + 3 * w);
     }
 }
 
-pub fn ids_at(b: &[u8], k: usize) -> Ids
-    requires { k + 16 ≤ length b.now }
-    ensures { result ≡ spec.ids_at b.now k }
-{
-    Ids {
-        a: get_u32(b, k),
-        b: get_u32(b, k + 4),
-        c: get_u32(b, k + 8),
-        d: get_u32(b, k + 12),
+impl<const N: usize> Field for [f32; N] {
+    ghost floats = { N };
+
+    ghost read = { spec.floats_at N };
+
+    ghost written = { spec.put_floats N };
+
+    fn get(b: &[u8], k: usize) -> [f32; N] {
+        let mut v = [0.0f32; N];
+        for i in 0..N {
+            v[i] = f32::get(b, k + 4 * i);
+        }
+        v
     }
-}
 
-// As many floats as `out` holds.
-fn get_floats(b: &[u8], k: usize, out: &mut [f32])
-    requires { Reads (4 * length out.old) k b.now }
-    ensures { out.new ≡ spec.floats_at (length out.old) b.now k }
-{
-    let mut i: usize = 0;
-    while i < out.len() {
-        out[i] = f32_at(b, k + 4 * i);
-        i += 1;
+    fn put(self, b: &mut [u8], k: usize) {
+        for i in 0..N {
+            self[i].put(b, k + 4 * i);
+        }
     }
-}
-
-pub fn floats6_at(b: &[u8], k: usize) -> [f32; 6]
-    requires { Reads 24 k b.now }
-    ensures { result ≡ spec.floats_at 6 b.now k }
-{
-    let mut v = [0.0f32; 6];
-    get_floats(b, k, &mut v);
-    v
-}
-
-pub fn floats36_at(b: &[u8], k: usize) -> [f32; 36]
-    requires { Reads 144 k b.now }
-    ensures { result ≡ spec.floats_at 36 b.now k }
-{
-    let mut v = [0.0f32; 36];
-    get_floats(b, k, &mut v);
-    v
-}
-
-// ---- put, and what a row's record then holds is still as put_f32 writes it
-
-pub fn put_f32(b: &mut [u8], k: usize, x: f32)
-    requires { k + 4 ≤ length b.old }
-    ensures { (b.new ≡ spec.put_f32 b.old k x) × Stays k b.old b.new }
-{
-    little_endian::put_f32(b, k, x);
-}
-
-pub fn put_vec3(b: &mut [u8], k: usize, v: Vec3)
-    requires { k + 12 ≤ length b.old }
-    ensures { (b.new ≡ spec.put_vec3 b.old k v) × Stays k b.old b.new }
-{
-    put_f32(b, k, v.x);
-    put_f32(b, k + 4, v.y);
-    put_f32(b, k + 8, v.z);
-}
-
-pub fn put_four(b: &mut [u8], k: usize, v: Four)
-    requires { k + 48 ≤ length b.old }
-    ensures { (b.new ≡ spec.put_four b.old k v) × Stays k b.old b.new }
-{
-    put_vec3(b, k, v.a);
-    put_vec3(b, k + 12, v.b);
-    put_vec3(b, k + 24, v.c);
-    put_vec3(b, k + 36, v.d);
-}
-
-pub fn put_mat3(b: &mut [u8], k: usize, m: Mat3)
-    requires { k + 36 ≤ length b.old }
-    ensures { (b.new ≡ spec.put_mat3 b.old k m) × Stays k b.old b.new }
-{
-    put_vec3(b, k, m.x);
-    put_vec3(b, k + 12, m.y);
-    put_vec3(b, k + 24, m.z);
-}
-
-pub fn put_quat(b: &mut [u8], k: usize, q: Quat)
-    requires { k + 16 ≤ length b.old }
-    ensures { (b.new ≡ spec.put_quat b.old k q) × Stays k b.old b.new }
-{
-    put_f32(b, k, q.x);
-    put_f32(b, k + 4, q.y);
-    put_f32(b, k + 8, q.z);
-    put_f32(b, k + 12, q.w);
-}
-
-fn put_floats(b: &mut [u8], k: usize, l: &[f32])
-    requires { k + 4 * length l.now ≤ length b.old }
-    ensures { (b.new ≡ spec.put_floats (length l.now) b.old k l.now) × Stays k b.old b.new }
-{
-    let mut i: usize = 0;
-    while i < l.len() {
-        put_f32(b, k + 4 * i, l[i]);
-        i += 1;
-    }
-}
-
-pub fn put_floats6(b: &mut [u8], k: usize, l: &[f32; 6])
-    requires { k + 24 ≤ length b.old }
-    ensures { (b.new ≡ spec.put_floats 6 b.old k l.now) × Stays k b.old b.new }
-{
-    put_floats(b, k, l);
-}
-
-pub fn put_floats36(b: &mut [u8], k: usize, l: &[f32; 36])
-    requires { k + 144 ≤ length b.old }
-    ensures { (b.new ≡ spec.put_floats 36 b.old k l.now) × Stays k b.old b.new }
-{
-    put_floats(b, k, l);
 }

@@ -1,9 +1,8 @@
--- `floats::put_f32` meets its contract. Assumes nothing.
-use borrow.Author.Rules.{rules}
-use mathlib.Core.Path.{sym, subst}
+-- A float put: it is as it is written, and the others stay. Assumes nothing.
+use Rattle.std.proofs.Common.{rules, sym, subst}
 use Rattle.floats.specs.Written.{AllWritten}
 use Rattle.floats.proofs.Written.{put_stays}
-use Rattle.floats.proofs.put_f32.Goals as goal
+use Rattle.floats.proofs.F32Field.put.Goals as goal
 
 pub returns : goal.returns
 returns c = (
