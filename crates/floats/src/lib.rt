@@ -51,7 +51,7 @@ pub trait Field: Copy {
 
     ghost read: { List ℕ → ℕ → Self };
 
-    ghost written: { List ℕ → ℕ → Self → List ℕ };
+    ghost after: { List ℕ → ℕ → Self → List ℕ };
 
     fn get(b: &[u8], k: usize) -> Self
         requires { Reads (4 * floats) k b.now }
@@ -60,7 +60,7 @@ pub trait Field: Copy {
     // What the record then holds is still as floats are put.
     fn put(self, b: &mut [u8], k: usize)
         requires { k + 4 * floats ≤ length b.old }
-        ensures { (b.new ≡ written b.old k self) × Stays k b.old b.new };
+        ensures { (b.new ≡ after b.old k self) × Stays k b.old b.new };
 }
 
 // A field of which several stand one after another.
@@ -89,7 +89,7 @@ impl Field for f32 {
 
     ghost read = { f32_at };
 
-    ghost written = { spec.put_f32 };
+    ghost after = { spec.put_f32 };
 
     fn get(b: &[u8], k: usize) -> f32 {
         of_written(get_u32(b, k))
@@ -113,7 +113,7 @@ impl Field for Vec3 {
 
     ghost read = { spec.vec3_at };
 
-    ghost written = { spec.put_vec3 };
+    ghost after = { spec.put_vec3 };
 
     #[tactic(auto, unfolding(crate::specs::Fields::vec3_at))]
     fn get(b: &[u8], k: usize) -> Vec3 {
@@ -146,7 +146,7 @@ impl Field for Mat3 {
 
     ghost read = { spec.mat3_at };
 
-    ghost written = { spec.put_mat3 };
+    ghost after = { spec.put_mat3 };
 
     #[tactic(auto, unfolding(crate::specs::Fields::mat3_at))]
     fn get(b: &[u8], k: usize) -> Mat3 {
@@ -170,7 +170,7 @@ impl Field for Quat {
 
     ghost read = { spec.quat_at };
 
-    ghost written = { spec.put_quat };
+    ghost after = { spec.put_quat };
 
     #[tactic(auto, unfolding(crate::specs::Fields::quat_at))]
     fn get(b: &[u8], k: usize) -> Quat {
@@ -196,7 +196,7 @@ impl<T: Element> Field for Four<T> {
 
     ghost read = { spec.four_of T.read (4 * T.floats) };
 
-    ghost written = { spec.put_four_of T.written (4 * T.floats) };
+    ghost after = { spec.put_four_of T.after (4 * T.floats) };
 
     fn get(b: &[u8], k: usize) -> Four<T> {
         let w = 4 * T::FLOATS;
@@ -222,7 +222,7 @@ impl<const N: usize> Field for [f32; N] {
 
     ghost read = { spec.floats_at N };
 
-    ghost written = { spec.put_floats N };
+    ghost after = { spec.put_floats N };
 
     fn get(b: &[u8], k: usize) -> [f32; N] {
         let mut v = [0.0f32; N];
