@@ -26,12 +26,7 @@ pub struct Solved<T> {
 pub fn refreshed(h: Holds, pos: Four<Vec3>) -> Four<Vec3>
     ensures { result ≡ spec.refreshed h pos }
 {
-    Four {
-        a: h.a.unwrap_or(pos.a),
-        b: h.b.unwrap_or(pos.b),
-        c: h.c.unwrap_or(pos.c),
-        d: h.d.unwrap_or(pos.d),
-    }
+    h.zip(pos, |held, old| held.unwrap_or(old))
 }
 
 // The sum goes on where the place is named.
