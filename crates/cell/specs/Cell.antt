@@ -14,10 +14,7 @@ use Rattle.vector.specs.declared.Four.{Four}
 use Rattle.strain.specs.Six.{any_above6}
 use Rattle.shape.specs.Rotation.{extract_rotation}
 use Rattle.shape.specs.Cell.{cell_edge_matrix}
-use Rattle.places.specs.declared.Held.{Held}
-use Rattle.places.specs.declared.Holds.{Holds}
-use Rattle.places.specs.declared.Masses.{Masses}
-use Rattle.places.specs.Places.{refreshed}
+use Rattle.places.specs.Places.{Holds, Masses, refreshed}
 use Rattle.cell.specs.Strain.{strain_rows_of, strain_tensor, outer_sum}
 use Rattle.cell.specs.declared.Cell.{Cell}
 use Rattle.cell.specs.declared.Pose.{Pose}
@@ -25,7 +22,7 @@ use Rattle.cell.specs.declared.Pose.{Pose}
 -- ---- update
 
 -- F = Ds · Dm⁻¹
-unfoldable pub deformation_gradient : Four → Mat3 → Mat3
+unfoldable pub deformation_gradient : Four Vec3 → Mat3 → Mat3
 deformation_gradient pos inv = mul_mat (cell_edge_matrix pos) inv
 
 -- a determinant of 0, -0 or NaN is not inverted
@@ -48,7 +45,7 @@ unfoldable pub strain_of : Mat3 → Mat3 → List Float
 strain_of rot f = strain_rows_of (sub_mat (mul_mat (transpose rot) f) identity)
 
 -- pos is refreshed, f the deformation gradient there, and warm the rotation of the last update
-unfoldable pub posed : List Float → Quat → Four → Mat3 → Pose
+unfoldable pub posed : List Float → Quat → Four Vec3 → Mat3 → Pose
 posed caps warm pos f =
     let rotation = extract_rotation f warm in
     let rot = to_matrix rotation in
@@ -71,19 +68,19 @@ abbrev pub local_of : Mat3 → Held → Vec3
 local_of invRot h = cond h.named (mul_vec invRot h.value) v.zero_vector
 
 -- the velocities in the cell's frame
-unfoldable pub local_velocities : Mat3 → Holds → Four
+unfoldable pub local_velocities : Mat3 → Holds → Four Vec3
 local_velocities rot vel =
     let invRot = transpose rot in
     record { a = local_of invRot vel.a; b = local_of invRot vel.b; c = local_of invRot vel.c; d = local_of invRot vel.d }
 
-unfoldable pub strain_rates : Mat3 → Four → Holds → List Float
+unfoldable pub strain_rates : Mat3 → Four Vec3 → Holds → List Float
 strain_rates rot coeffs vel = strain_rows_of (outer_sum (local_velocities rot vel) coeffs)
 
 -- what a place with coefficients c and inverse mass w is to lose for the strain impulses of the tensor t: (R t c) w
 unfoldable pub strain_loss : Mat3 → Mat3 → Vec3 → Float → Vec3
 strain_loss rot t c w = v.scale (mul_vec rot (mul_vec t c)) w
 
-unfoldable pub strain_losses : Mat3 → Four → Masses → List Float → Four
+unfoldable pub strain_losses : Mat3 → Four Vec3 → Masses → List Float → Four Vec3
 strain_losses rot coeffs im l =
     let t = strain_tensor l in
     record {
@@ -97,7 +94,7 @@ strain_losses rot coeffs im l =
 unfoldable pub volume_loss : Mat3 → Mat3 → Vec3 → Vec3 → Float → Float → Vec3
 volume_loss rot t c g x w = v.scale (v.add (mul_vec rot (mul_vec t c)) (v.scale g x)) w
 
-unfoldable pub volume_losses : Mat3 → Four → Masses → List Float → Four → Float → Four
+unfoldable pub volume_losses : Mat3 → Four Vec3 → Masses → List Float → Four Vec3 → Float → Four Vec3
 volume_losses rot coeffs im l grad x =
     let t = strain_tensor l in
     record {

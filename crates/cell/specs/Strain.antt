@@ -6,7 +6,7 @@ use Rattle.vector.specs.Vector as v
 use Rattle.vector.specs.declared.Vec3.{Vec3}
 use Rattle.vector.specs.declared.Mat3.{Mat3}
 use Rattle.vector.specs.declared.Four.{Four}
-use Rattle.places.specs.declared.Masses.{Masses}
+use Rattle.places.specs.Places.{Masses}
 
 -- ½ (m_ab + m_ba)
 unfoldable pub strain_rows_of : Mat3 → List Float
@@ -34,12 +34,12 @@ strain_matrix e =
     }
 
 -- Σ a_p b_pj, from the zero vector
-abbrev pub outer_column : Four → Float → Float → Float → Float → Vec3
+abbrev pub outer_column : Four Vec3 → Float → Float → Float → Float → Vec3
 outer_column a k0 k1 k2 k3 =
     v.add (v.add (v.add (v.add v.zero_vector (v.scale a.a k0)) (v.scale a.b k1)) (v.scale a.c k2)) (v.scale a.d k3)
 
 -- Σ a_p b_pᵀ, by columns
-unfoldable pub outer_sum : Four → Four → Mat3
+unfoldable pub outer_sum : Four Vec3 → Four Vec3 → Mat3
 outer_sum a b =
     record {
       x = outer_column a b.a.x b.b.x b.c.x b.d.x;
@@ -48,7 +48,7 @@ outer_sum a b =
     }
 
 -- the coefficients times the inverse masses
-unfoldable pub weighted : Four → Masses → Four
+unfoldable pub weighted : Four Vec3 → Masses → Four Vec3
 weighted c im = record { a = v.scale c.a im.a; b = v.scale c.b im.b; c = v.scale c.c im.c; d = v.scale c.d im.d }
 
 -- ---- the effective-mass block, from G = Σ w_p c_p c_pᵀ

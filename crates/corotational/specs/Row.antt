@@ -1,7 +1,6 @@
 -- The corotational row whole: which parts of it its update, warm start and solve assign. As soft_elastic_constraint.rs and `solve_color_constraint` have it. Definitions only. Assumes nothing.
 use Rattle.std.specs.Prelude.{Float}
-use Rattle.places.specs.declared.Holds.{Holds}
-use Rattle.places.specs.Places.{refreshed}
+use Rattle.places.specs.Places.{Holds, refreshed}
 use Rattle.cell.specs.Cell.{deformation_gradient, posed}
 use Rattle.cell.specs.declared.Impulses.{Impulses}
 use Rattle.cell.specs.declared.Solved.{Solved}

@@ -17,11 +17,11 @@ use Rattle.gradients.specs.declared.Gradients.{Gradients}
 abbrev pub micro : Float
 micro = of_bits binary32 0x358637bd
 
-unfoldable pub no_gradients : Four
-no_gradients = record { a = v.zero_vector; b = v.zero_vector; c = v.zero_vector; d = v.zero_vector }
+unfoldable pub no_gradients : Four Vec3
+no_gradients = v.splat v.zero_vector
 
 -- the triangles (0, 1, 2) and (0, 1, 3): p1, p2 and p3 are the edges from particle 0, n1 and n2 the unit normals, l1 and l2 the lengths that the normals had
-unfoldable pub fold_of : Four → Fold
+unfoldable pub fold_of : Four Vec3 → Fold
 fold_of pos =
     let p1 = v.sub pos.b pos.a in
     let p2 = v.sub pos.c pos.a in
@@ -41,13 +41,13 @@ unfoldable pub q2 : Fold → Float → Vec3
 q2 f d = v.sub (v.divide (v.neg (lean f.p2 f.n2 f.n1 d)) f.l1) (v.divide (lean f.p3 f.n1 f.n2 d) f.l2)
 
 -- and all four
-unfoldable pub qs : Fold → Float → Four
+unfoldable pub qs : Fold → Float → Four Vec3
 qs f d =
     let q3 = v.divide (lean f.p1 f.n2 f.n1 d) f.l1 in
     let q4 = v.divide (lean f.p1 f.n1 f.n2 d) f.l2 in
     record { a = v.sub (v.sub (v.neg (q2 f d)) q3) q4; b = q2 f d; c = q3; d = q4 }
 
-unfoldable pub scale_four : Four → Float → Four
+unfoldable pub scale_four : Four Vec3 → Float → Four Vec3
 scale_four q k = record { a = v.scale q.a k; b = v.scale q.b k; c = v.scale q.c k; d = v.scale q.d k }
 
 -- where the triangles lie flat the angle is stationary: no useful gradient, and the error all the same
@@ -62,7 +62,7 @@ abbrev pub no_area : Fold → Bool
 no_area f = lt f.l1 nano || lt f.l2 nano
 
 -- where a triangle has no area the gradients are zero and the error is 0, not the angle less rest
-unfoldable pub dihedral_gradients : Four → Float → Gradients
+unfoldable pub dihedral_gradients : Four Vec3 → Float → Gradients
 dihedral_gradients pos rest =
     let f = fold_of pos in
     cond (no_area f) (record { grad = no_gradients; error = f0 }) (bent f rest)

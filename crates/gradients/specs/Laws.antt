@@ -15,8 +15,8 @@ use Rattle.gradients.specs.Gradients.{distance_gradients}
 use Rattle.gradients.specs.declared.Fold.{Fold}
 
 -- a distance row's two gradients are opposite, and it leaves the other two as they are
-module _ (pos grad : Four) (rest : Float) where
-  abbrev g : Four
+module _ (pos grad : Four Vec3) (rest : Float) where
+  abbrev g : Four Vec3
   g = (distance_gradients pos grad rest).grad
 
   pub opposite : g.a ≡ v.neg g.b
@@ -32,11 +32,11 @@ module _ (pos grad : Four) (rest : Float) where
   fourth_kept = refl
 
 -- a triangle without area: the error is 0, whatever the rest
-pub no_area_lem : (pos : Four) (rest : Float) → no_area (fold_of pos) ≡ true → dihedral_gradients pos rest ≡ record { grad = no_gradients; error = f0 }
+pub no_area_lem : (pos : Four Vec3) (rest : Float) → no_area (fold_of pos) ≡ true → dihedral_gradients pos rest ≡ record { grad = no_gradients; error = f0 }
 unfolding dihedral_gradients
 no_area_lem pos rest h = rw h refl
 
-abbrev same : Vec3 → Four
+abbrev same : Vec3 → Four Vec3
 same p = record { a = p; b = p; c = p; d = p }
 
 -- four points at (1, 1, 1) with `rest` 2: the error is 0, not -2

@@ -3,96 +3,84 @@ ghost use Rattle.std.specs.Prelude.{◌≡◌};
 ghost use Rattle.gradients.specs.Dihedral as spec;
 
 use crate::{Fold, Gradients};
-use places::pick_four;
-use real::{acos, clamp};
-use vector::{Four, Vec3, add, cross, divide, dot, length, neg, scale, sub, zero_vector};
+use real::{acos, clamp, pick};
+use vector::{Four, Vec3};
 
-fn no_gradients() -> Four
+#[tactic(auto, unfolding(crate::specs::Dihedral::no_gradients))]
+fn no_gradients() -> Four<Vec3>
     ensures { result ≡ spec.no_gradients }
 {
-    let z = zero_vector();
-    Four {
-        a: z,
-        b: z,
-        c: z,
-        d: z,
-    }
+    Four::splat(Vec3::zero())
 }
 
-fn fold_of(pos: Four) -> Fold
+#[tactic(auto, unfolding(crate::specs::Dihedral::fold_of))]
+fn fold_of(pos: Four<Vec3>) -> Fold
     ensures { result ≡ spec.fold_of pos }
 {
-    let p1 = sub(pos.b, pos.a);
-    let p2 = sub(pos.c, pos.a);
-    let p3 = sub(pos.d, pos.a);
-    let m1 = cross(p1, p2);
-    let m2 = cross(p1, p3);
-    let l1 = length(m1);
-    let l2 = length(m2);
+    let p1 = pos.b - pos.a;
+    let p2 = pos.c - pos.a;
+    let p3 = pos.d - pos.a;
+    let m1 = p1.cross(p2);
+    let m2 = p1.cross(p3);
+    let l1 = m1.length();
+    let l2 = m2.length();
     Fold {
-        p1: p1,
-        p2: p2,
-        p3: p3,
-        n1: divide(m1, l1),
-        n2: divide(m2, l2),
-        l1: l1,
-        l2: l2,
+        p1,
+        p2,
+        p3,
+        n1: m1 / l1,
+        n2: m2 / l2,
+        l1,
+        l2,
     }
 }
 
+#[tactic(auto, unfolding(crate::specs::Dihedral::lean))]
 fn lean(p: Vec3, n: Vec3, m: Vec3, d: f32) -> Vec3
     ensures { result ≡ spec.lean p n m d }
 {
-    add(cross(p, n), scale(cross(m, p), d))
+    p.cross(n) + m.cross(p) * d
 }
 
+#[tactic(auto, unfolding(crate::specs::Dihedral::q2))]
 fn q2(f: Fold, d: f32) -> Vec3
     ensures { result ≡ spec.q2 f d }
 {
-    let first = lean(f.p2, f.n2, f.n1, d);
-    let second = lean(f.p3, f.n1, f.n2, d);
-    sub(divide(neg(first), f.l1), divide(second, f.l2))
+    -lean(f.p2, f.n2, f.n1, d) / f.l1 - lean(f.p3, f.n1, f.n2, d) / f.l2
 }
 
-fn qs(f: Fold, d: f32) -> Four
+#[tactic(auto, unfolding(crate::specs::Dihedral::qs))]
+fn qs(f: Fold, d: f32) -> Four<Vec3>
     ensures { result ≡ spec.qs f d }
 {
-    let q3 = divide(lean(f.p1, f.n2, f.n1, d), f.l1);
-    let q4 = divide(lean(f.p1, f.n1, f.n2, d), f.l2);
+    let q3 = lean(f.p1, f.n2, f.n1, d) / f.l1;
+    let q4 = lean(f.p1, f.n1, f.n2, d) / f.l2;
     let q2 = q2(f, d);
     Four {
-        a: sub(sub(neg(q2), q3), q4),
+        a: -q2 - q3 - q4,
         b: q2,
         c: q3,
         d: q4,
     }
 }
 
-fn scale_four(q: Four, k: f32) -> Four
-    ensures { result ≡ spec.scale_four q k }
-{
-    Four {
-        a: scale(q.a, k),
-        b: scale(q.b, k),
-        c: scale(q.c, k),
-        d: scale(q.d, k),
-    }
-}
-
 // Of triangles with an area.
+#[tactic(auto, unfolding(crate::specs::Dihedral::bent, crate::specs::Dihedral::scale_four))]
 fn bent(f: Fold, rest: f32) -> Gradients
     ensures { result ≡ spec.bent f rest }
 {
-    let d = clamp(dot(f.n1, f.n2), -1.0, 1.0);
+    let d = clamp(f.n1.dot(f.n2), -1.0, 1.0);
     let sin = root::root(1.0 - d * d);
-    let grad = scale_four(qs(f, d), 1.0 / sin);
+    let scale = 1.0 / sin;
+    let grad = qs(f, d).map(|q| q * scale);
     Gradients {
-        grad: pick_four(sin < 1.0e-6, no_gradients(), grad),
+        grad: pick(sin < 1.0e-6, no_gradients(), grad),
         error: acos(d) - rest,
     }
 }
 
-pub fn dihedral_gradients(pos: Four, rest: f32) -> Gradients
+#[tactic(auto, unfolding(crate::specs::Dihedral::dihedral_gradients))]
+pub fn dihedral_gradients(pos: Four<Vec3>, rest: f32) -> Gradients
     ensures { result ≡ spec.dihedral_gradients pos rest }
 {
     let f = fold_of(pos);

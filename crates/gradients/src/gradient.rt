@@ -2,12 +2,12 @@
 ghost use Rattle.std.specs.Prelude.{◌≡◌};
 ghost use Rattle.gradients.specs.Gradients as spec;
 
-use crate::Gradients;
 use crate::dihedral::dihedral_gradients;
-use places::pick_vec;
+use crate::{Gradients, ScalarKind};
 use shape::cell::{cell_volume, cell_volume_gradients};
-use vector::{Four, Vec3, divide, length, neg, sub};
+use vector::{Four, Vec3};
 
+#[tactic(auto, unfolding(crate::specs::Gradients::unit_x))]
 fn unit_x() -> Vec3
     ensures { result ≡ spec.unit_x }
 {
@@ -18,23 +18,25 @@ fn unit_x() -> Vec3
     }
 }
 
-fn distance_gradients(pos: Four, grad: Four, rest: f32) -> Gradients
+#[tactic(auto, unfolding(crate::specs::Gradients::distance_gradients))]
+fn distance_gradients(pos: Four<Vec3>, grad: Four<Vec3>, rest: f32) -> Gradients
     ensures { result ≡ spec.distance_gradients pos grad rest }
 {
-    let d = sub(pos.b, pos.a);
-    let len = length(d);
-    let n = pick_vec(1.0e-9 < len, divide(d, len), unit_x());
-    let back = neg(n);
-    let mut g = grad;
-    g.a = back;
-    g.b = n;
+    let d = pos.b - pos.a;
+    let len = d.length();
+    let n = real::pick(1.0e-9 < len, d / len, unit_x());
     Gradients {
-        grad: g,
+        grad: Four {
+            a: -n,
+            b: n,
+            ..grad
+        },
         error: len - rest,
     }
 }
 
-fn volume_gradients(pos: Four, rest: f32) -> Gradients
+#[tactic(auto, unfolding(crate::specs::Gradients::volume_gradients))]
+fn volume_gradients(pos: Four<Vec3>, rest: f32) -> Gradients
     ensures { result ≡ spec.volume_gradients pos rest }
 {
     Gradients {
@@ -43,14 +45,18 @@ fn volume_gradients(pos: Four, rest: f32) -> Gradients
     }
 }
 
-pub fn compute_gradients(kind: u32, pos: Four, grad: Four, rest: f32) -> Gradients
+#[tactic(auto, unfolding(crate::specs::Gradients::compute_gradients))]
+pub fn compute_gradients(
+    kind: ScalarKind,
+    pos: Four<Vec3>,
+    grad: Four<Vec3>,
+    rest: f32,
+) -> Gradients
     ensures { result ≡ spec.compute_gradients kind pos grad rest }
 {
-    if kind == 0 {
-        return distance_gradients(pos, grad, rest);
+    match kind {
+        ScalarKind::Distance => distance_gradients(pos, grad, rest),
+        ScalarKind::Dihedral => dihedral_gradients(pos, rest),
+        ScalarKind::CellVolume => volume_gradients(pos, rest),
     }
-    if kind == 1 {
-        return dihedral_gradients(pos, rest);
-    }
-    volume_gradients(pos, rest)
 }

@@ -81,9 +81,9 @@ pub fn outer_product(a: Vec3, b: Vec3) -> Mat3
     ensures { result ≡ products.outer_product a b }
 {
     Mat3 {
-        x: vector::scale(a, b.x),
-        y: vector::scale(a, b.y),
-        z: vector::scale(a, b.z),
+        x: a * b.x,
+        y: a * b.y,
+        z: a * b.z,
     }
 }
 
@@ -92,8 +92,8 @@ pub fn cofactor(f: Mat3) -> Mat3
     ensures { result ≡ products.cofactor f }
 {
     Mat3 {
-        x: vector::cross(f.y, f.z),
-        y: vector::cross(f.z, f.x),
-        z: vector::cross(f.x, f.y),
+        x: f.y.cross(f.z),
+        y: f.z.cross(f.x),
+        z: f.x.cross(f.y),
     }
 }

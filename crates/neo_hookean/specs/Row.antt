@@ -1,6 +1,6 @@
 -- The neo-Hookean row whole: which parts of it its update, warm start and solve assign. As soft_elastic_constraint.rs and `solve_color_constraint` have it. Definitions only. Assumes nothing.
+use Rattle.places.specs.Places.{Holds}
 use Rattle.std.specs.Prelude.{Float}
-use Rattle.places.specs.declared.Holds.{Holds}
 use Rattle.cell.specs.Cell.{update_pose}
 use Rattle.cell.specs.declared.Impulses.{Impulses}
 use Rattle.cell.specs.declared.Solved.{Solved}

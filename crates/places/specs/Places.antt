@@ -1,5 +1,7 @@
 -- A row has four places, each with the id of a point. What a place holds is fetched before a row function is called: no row function sees a frame. Definitions only. Assumes nothing.
 use Rattle.std.specs.Prelude.{ℕ, Float, Option, Some, None}
+use Rattle.real.specs.Float.{◌⊕◌, f0}
+use Rattle.vector.specs.Vector.{dot}
 use Rattle.vector.specs.declared.Vec3.{Vec3}
 use Rattle.vector.specs.declared.Four.{Four}
 
@@ -21,3 +23,12 @@ held_or None v = v
 -- the row's positions anew: an id 0xFFFFFFFF, and a place past the row's count, leave the old one
 unfoldable pub refreshed : Holds → Four Vec3 → Four Vec3
 refreshed h pos = record { a = held_or h.a pos.a; b = held_or h.b pos.b; c = held_or h.c pos.c; d = held_or h.d pos.d }
+
+-- r and g·v, where the place is named
+abbrev pub add_rate : Float → Vec3 → Option Vec3 → Float
+add_rate r g (Some v) = r ⊕ dot g v
+add_rate r g None = r
+
+-- Σ g_p·v_p over the places that are named, from zero
+unfoldable pub rate_of : Four Vec3 → Holds → Float
+rate_of g vel = add_rate (add_rate (add_rate (add_rate f0 g.a vel.a) g.b vel.b) g.c vel.c) g.d vel.d

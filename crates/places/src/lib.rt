@@ -15,14 +15,37 @@ pub type Ids = Four<u32>;
 // The inverse masses of the four places.
 pub type Masses = Four<f32>;
 
+// What a warm start or a solve makes: a row's state anew, and what each place is to lose.
+#[derive(Clone, Copy)]
+pub struct Solved<T> {
+    pub state: T,
+    pub loss: Four<Vec3>,
+}
+
 #[tactic(auto, unfolding(crate::specs::Places::refreshed))]
 pub fn refreshed(h: Holds, pos: Four<Vec3>) -> Four<Vec3>
     ensures { result ≡ spec.refreshed h pos }
 {
-    Four {
-        a: h.a.unwrap_or(pos.a),
-        b: h.b.unwrap_or(pos.b),
-        c: h.c.unwrap_or(pos.c),
-        d: h.d.unwrap_or(pos.d),
+    h.zip(pos, |held, old| held.unwrap_or(old))
+}
+
+// The sum goes on where the place is named.
+fn add_rate(rate: f32, grad: Vec3, vel: Option<Vec3>) -> f32
+    ensures { result ≡ spec.add_rate rate grad vel }
+{
+    match vel {
+        Some(v) => rate + grad.dot(v),
+        None => rate,
     }
+}
+
+// The rate at which the velocities of the named places change what has these gradients.
+#[tactic(auto, unfolding(crate::specs::Places::rate_of))]
+pub fn rate_of(grad: Four<Vec3>, vel: Holds) -> f32
+    ensures { result ≡ spec.rate_of grad vel }
+{
+    let a = add_rate(0.0, grad.a, vel.a);
+    let b = add_rate(a, grad.b, vel.b);
+    let c = add_rate(b, grad.c, vel.c);
+    add_rate(c, grad.d, vel.d)
 }

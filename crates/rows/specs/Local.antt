@@ -7,7 +7,7 @@ use mathlib.Core.List.{List, [], ◌∷◌, Memᴰ}
 use Rattle.relisting.specs.Access.{Access, Local}
 use Rattle.relisting.specs.Build.{listed, work_local}
 use Rattle.vector.specs.declared.Vec3.{Vec3}
-use Rattle.places.specs.declared.Holds.{Holds}
+use Rattle.places.specs.Places.{Holds}
 use Rattle.scalar.specs.Row as s
 use Rattle.corotational.specs.Row as co
 use Rattle.neo_hookean.specs.Row as nh

@@ -4,10 +4,7 @@ use Rattle.std.proofs.Math.Option.{Option, none, some}
 use Rattle.vector.specs.Vector.{zero_vector}
 use Rattle.vector.specs.declared.Vec3.{Vec3}
 use Rattle.vector.specs.declared.Four.{Four}
-use Rattle.places.specs.declared.Held.{Held}
-use Rattle.places.specs.declared.Holds.{Holds}
-use Rattle.places.specs.declared.Ids.{Ids}
-use Rattle.places.specs.declared.Masses.{Masses}
+use Rattle.places.specs.Places.{Holds, Ids, Masses}
 use Rattle.scalar.specs.declared.SoftScalarConstraint.{SoftScalarConstraint}
 use Rattle.corotational.specs.declared.CorotationalRow.{CorotationalRow}
 use Rattle.neo_hookean.specs.declared.NeoHookeanRow.{NeoHookeanRow}
@@ -107,5 +104,5 @@ losses_of N [] xs = []
 losses_of N (i ∷ is) [] = []
 losses_of N (i ∷ is) (x ∷ xs) = loss_of N i x (losses_of N is xs)
 
-abbrev pub four : Four → List Vec3
+abbrev pub four : Four Vec3 → List Vec3
 four x = x.a ∷ x.b ∷ x.c ∷ x.d ∷ []

@@ -4,7 +4,7 @@ use Rattle.std.proofs.Math.Option.{Option}
 use Rattle.relisting.specs.Steps.{fetch, alters}
 use Rattle.vector.specs.declared.Vec3.{Vec3}
 use Rattle.vector.specs.declared.Four.{Four}
-use Rattle.places.specs.declared.Holds.{Holds}
+use Rattle.places.specs.Places.{Holds}
 use Rattle.scalar.specs.Row as s
 use Rattle.corotational.specs.Row as c
 use Rattle.neo_hookean.specs.Row as n
@@ -27,7 +27,7 @@ strained_of (neo_hookean r) least = cell.is_strained r.pose.strain least
 -- a constraint anew, and what each of its places is to lose
 pub record Done : Type 0 where
   pub constraint : Constraint
-  pub loss : Four
+  pub loss : Four Vec3
 
 unfoldable pub warmstart_of : Constraint → Float → Done
 warmstart_of (scalar r) k = record { constraint = scalar (s.warmstart r k).row; loss = (s.warmstart r k).loss }
@@ -52,7 +52,7 @@ module _ {Pt : Type 0} (position velocity : Pt → Vec3) (lose : Vec3 → Pt →
   abbrev pub by : (Row → List (Option Pt) → Row × List (ℕ × Vec3)) → Row → List Pt → Row × List Pt
   by g r s = let x = g r (fetch (names r) s) in (x.0, alters lose x.1 s)
 
-  abbrev pub lost : Row → Four → List (ℕ × Vec3)
+  abbrev pub lost : Row → Four Vec3 → List (ℕ × Vec3)
   lost r x = losses_of N (names r) (four x)
 
   -- an update also records whether the row is strained past the least

@@ -6,8 +6,7 @@ use Rattle.real.specs.Float.{f0}
 use Rattle.real.proofs.Laws.{clamp_nan}
 use Rattle.real.specs.Real.{max}
 use Rattle.vector.specs.declared.Four.{Four}
-use Rattle.places.specs.declared.Holds.{Holds}
-use Rattle.places.specs.declared.Masses.{Masses}
+use Rattle.places.specs.Places.{Holds, Masses}
 use Rattle.scalar.specs.Row.{weight_of, respond, update, is_strained, sought_of, total_of, with_peak, begin}
 use Rattle.scalar.specs.declared.Spring.{Spring}
 use Rattle.scalar.specs.declared.Response.{Response}
@@ -16,7 +15,7 @@ use Rattle.scalar.specs.declared.SoftScalarConstraint.{SoftScalarConstraint}
 -- ---- update
 
 -- a row that names no particle weighs nothing
-pub weightless : (grad : Four) (im : Masses) → weight_of 0 grad im ≡ f0
+pub weightless : (grad : Four Vec3) (im : Masses) → weight_of 0 grad im ≡ f0
 unfolding weight_of
 weightless grad im = refl
 

@@ -6,10 +6,7 @@ use Rattle.real.specs.Real.{abs, max, clamp, inv}
 use Rattle.vector.specs.Vector as v
 use Rattle.vector.specs.declared.Vec3.{Vec3}
 use Rattle.vector.specs.declared.Four.{Four}
-use Rattle.places.specs.declared.Held.{Held}
-use Rattle.places.specs.declared.Holds.{Holds}
-use Rattle.places.specs.declared.Masses.{Masses}
-use Rattle.places.specs.Places.{refreshed}
+use Rattle.places.specs.Places.{Holds, Masses, refreshed}
 use Rattle.gradients.specs.Gradients.{compute_gradients}
 use Rattle.scalar.specs.declared.Spring.{Spring}
 use Rattle.scalar.specs.declared.Response.{Response}
@@ -22,7 +19,7 @@ use Rattle.scalar.specs.declared.Solved.{Solved}
 abbrev pub weigh : ℕ → ℕ → Vec3 → Float → Float → Float
 weigh count k g im w = cond (ltb k count) (w ⊕ v.dot g (v.scale g im)) w
 
-unfoldable pub weight_of : ℕ → Four → Masses → Float
+unfoldable pub weight_of : ℕ → Four Vec3 → Masses → Float
 weight_of count grad im =
     weigh count 3 grad.d im.d (weigh count 2 grad.c im.c (weigh count 1 grad.b im.b (weigh count 0 grad.a im.a f0)))
 
@@ -66,7 +63,7 @@ with_impulse r x =
 
 -- ---- what each place is to lose for an impulse: (grad im) impulse
 
-unfoldable pub losses : Four → Masses → Float → Four
+unfoldable pub losses : Four Vec3 → Masses → Float → Four Vec3
 losses grad im impulse =
     record {
       a = v.scale (v.scale grad.a im.a) impulse;
@@ -81,7 +78,7 @@ losses grad im impulse =
 abbrev pub closing : Held → Vec3 → Float → Float
 closing h g dc = cond h.named (dc ⊕ v.dot g h.value) dc
 
-unfoldable pub rate_of : Four → Holds → Float
+unfoldable pub rate_of : Four Vec3 → Holds → Float
 rate_of grad vel = closing vel.d grad.d (closing vel.c grad.c (closing vel.b grad.b (closing vel.a grad.a f0)))
 
 -- the impulse that answers the rate and the bias, before it is held to its bounds

@@ -12,7 +12,6 @@ use Rattle.vector.specs.Vector as v
 use Rattle.vector.specs.declared.Vec3.{Vec3}
 use Rattle.vector.specs.declared.Four.{Four}
 use Rattle.places.specs.Places.{refreshed}
-use Rattle.places.specs.declared.Held.{Held}
 use Rattle.places.specs.declared.Holds as places
 use Rattle.gradients.specs.Gradients.{compute_gradients, distance_gradients, unit_x}
 use Rattle.scalar.specs.Row.{weight_of, respond, update, losses, rate_of, sought_of, total_of, solve, with_peak, begin}
@@ -21,7 +20,7 @@ use Rattle.scalar.specs.declared.SoftScalarConstraint.{SoftScalarConstraint}
 abbrev on_x : Float → Vec3
 on_x x = record { x = x; y = f0; z = f0 }
 
-abbrev origins : Four
+abbrev origins : Four Vec3
 origins = record { a = on_x f0; b = on_x f0; c = on_x f0; d = on_x f0 }
 
 -- `rest` 1, `im` 1, `erp_inv_dt` 1, `cfm_coeff` 0, impulse 0, and no lower bound

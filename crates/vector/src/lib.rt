@@ -58,6 +58,32 @@ impl<T: Copy> Four<T> {
             d: value,
         }
     }
+
+    // What f makes of each.
+    pub fn map<U, F: Fn(T) -> U>(self, f: F) -> Four<U>
+        requires { F.IsAlwaysCallable f }
+        ensures { (F.post f self.a result.a) × (F.post f self.b result.b) × (F.post f self.c result.c) × (F.post f self.d result.d) }
+    {
+        Four {
+            a: f(self.a),
+            b: f(self.b),
+            c: f(self.c),
+            d: f(self.d),
+        }
+    }
+
+    // What f makes of each with its like in `other`.
+    pub fn zip<U: Copy, V, F: Fn(T, U) -> V>(self, other: Four<U>, f: F) -> Four<V>
+        requires { F.IsAlwaysCallable f }
+        ensures { (F.post f self.a other.a result.a) × (F.post f self.b other.b result.b) × (F.post f self.c other.c result.c) × (F.post f self.d other.d result.d) }
+    {
+        Four {
+            a: f(self.a, other.a),
+            b: f(self.b, other.b),
+            c: f(self.c, other.c),
+            d: f(self.d, other.d),
+        }
+    }
 }
 
 impl Vec3 {
