@@ -63,7 +63,7 @@ floats_kept (suc n) b i l c k p =
     f32_kept (up_to n (λ j s. put_f32 s (i + 4 * j) (at l j)) b) (i + 4 * n) (at l n) (clear_part i (4 * suc n) (i + 4 * n) 4 (omega arith) (omega arith) c) k p
     ∙ floats_kept n b i l (clear_part i (4 * suc n) i (4 * n) (omega arith) (omega arith) c) k p
 
-pub four_kept : (b : List ℕ) (i : ℕ) (v : Four) → Clear i 48 → Kept (put_four b i v) b
+pub four_kept : (b : List ℕ) (i : ℕ) (v : Four Vec3) → Clear i 48 → Kept (put_four b i v) b
 unfolding put_four
 four_kept b i v c k p =
     vec3_kept (put_vec3 (put_vec3 (put_vec3 b i v.a) (i + 12) v.b) (i + 24) v.c) (i + 36) v.d (clear_part i 48 (i + 36) 12 (omega arith) (omega arith) c) k p

@@ -4,8 +4,7 @@ use Rattle.std.proofs.Math.Path.{refl}
 use Rattle.std.proofs.Common.{◌∙◌, inl, inr, arith}
 use Rattle.little_endian.specs.Bytes.{le16}
 use Rattle.relisting.specs.Steps.{fetch, alters}
-use Rattle.places.specs.declared.Ids.{Ids}
-use Rattle.places.specs.declared.Holds.{Holds}
+use Rattle.places.specs.Places.{Holds, Ids}
 use Rattle.records.specs.Layout as at
 use Rattle.rows.specs.Row.{key_of, places, counted_places, holds_of, losses_of, four}
 use Rattle.rows.specs.Step as step

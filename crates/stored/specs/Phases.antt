@@ -1,9 +1,9 @@
 -- One row's update, warm start and solve on the bytes of its record alone: what its places hold goes in; the record anew and what each place is to lose come out. The functions of the code are proved equal to these. The rules of the run are made without them (Points.antt), and PhaseLaws.antt has that the two agree. A reader of the rules does not need this file. Definitions only. Assumes nothing.
 use Rattle.std.specs.Prelude.{ℕ, Bool, cond, List, eqb, Float}
 use Rattle.little_endian.specs.Bytes.{le16}
+use Rattle.vector.specs.declared.Vec3.{Vec3}
 use Rattle.vector.specs.declared.Four.{Four}
-use Rattle.places.specs.declared.Ids.{Ids}
-use Rattle.places.specs.declared.Holds.{Holds}
+use Rattle.places.specs.Places.{Holds, Ids}
 use Rattle.records.specs.Layout as at
 use Rattle.rows.specs.Row.{counted}
 use Rattle.rows.specs.Step.{update_of, strained_of, warmstart_of, solve_of}
@@ -31,11 +31,11 @@ update_row least held b = let k = update_of (constraint_of b) held in put_flag (
 unfoldable pub warm_row : Float → List ℕ → List ℕ
 warm_row coeff b = warm_constraint (warmstart_of (constraint_of b) coeff).constraint b
 
-unfoldable pub warm_loss : Float → List ℕ → Four
+unfoldable pub warm_loss : Float → List ℕ → Four Vec3
 warm_loss coeff b = (warmstart_of (constraint_of b) coeff).loss
 
 unfoldable pub solve_row : Holds → List ℕ → List ℕ
 solve_row vel b = solve_constraint (solve_of (constraint_of b) vel).constraint b
 
-unfoldable pub solve_loss : Holds → List ℕ → Four
+unfoldable pub solve_loss : Holds → List ℕ → Four Vec3
 solve_loss vel b = (solve_of (constraint_of b) vel).loss

@@ -7,7 +7,7 @@ use Rattle.little_endian.specs.Bytes.{le16, le32, f32_bytes, bytes2}
 use Rattle.little_endian.proofs.Patch.{length-patch, sets_below}
 use Rattle.relisting.specs.Steps.{fetch, alter, alters, ◌then◌, pick, choose, nothing, sweep, sweeps, run}
 use Rattle.vector.specs.declared.Vec3.{Vec3}
-use Rattle.places.specs.declared.Holds.{Holds}
+use Rattle.places.specs.Places.{Holds}
 use Rattle.neo_hookean.specs.NeoHookean.{is_fresh}
 use Rattle.scalar.specs.declared.Response.{Response}
 use Rattle.scalar.specs.declared.SoftScalarConstraint.{SoftScalarConstraint}
