@@ -32,6 +32,7 @@ impl From<u32> for ScalarKind {
 }
 
 // A row's gradients and its error.
+#[repr(C)]
 #[derive(Clone, Copy)]
 pub struct Gradients {
     pub grad: Four<Vec3>,
@@ -39,6 +40,7 @@ pub struct Gradients {
 }
 
 // Two triangles with a common edge, from particle 0 to particle 1: the edges from particle 0, the unit normals, and the lengths that these had.
+#[repr(C)]
 #[derive(Clone, Copy)]
 pub struct Fold {
     pub p1: Vec3,

@@ -4,6 +4,7 @@ use Rattle.std.specs.Float.{binary32}
 use Rattle.std.specs.Float.Ieee.{of_bits}
 use Rattle.real.specs.Float.{◌⊗◌}
 use Rattle.vector.specs.declared.Mat3.{Mat3}
+use Rattle.vector.specs.declared.Vec3.{Vec3}
 use Rattle.vector.specs.declared.Four.{Four}
 use Rattle.places.specs.Places.{Holds, Masses}
 use Rattle.strain.specs.Six.{add6, sub6, scale6, all_within6}

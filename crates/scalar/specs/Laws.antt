@@ -1,12 +1,14 @@
 -- What the rules come to in particular cases. Assumes nothing.
-use Rattle.std.specs.Prelude.{◌≡◌, false, eqb, Float}
+use Rattle.std.specs.Prelude.{◌≡◌, false, Float}
 use Rattle.std.proofs.Math.Path.{refl}
 use Rattle.std.specs.Float.{nan}
 use Rattle.real.specs.Float.{f0}
 use Rattle.real.proofs.Laws.{clamp_nan}
 use Rattle.real.specs.Real.{max}
+use Rattle.vector.specs.declared.Vec3.{Vec3}
 use Rattle.vector.specs.declared.Four.{Four}
 use Rattle.places.specs.Places.{Holds, Masses}
+use Rattle.gradients.specs.Kind.{is_distance}
 use Rattle.scalar.specs.Row.{weight_of, respond, update, is_strained, sought_of, total_of, with_peak, begin}
 use Rattle.scalar.specs.declared.Spring.{Spring}
 use Rattle.scalar.specs.declared.Response.{Response}
@@ -35,7 +37,7 @@ module _ (r : SoftScalarConstraint) (held : Holds) where
   impulse_kept = refl
 
 -- only a distance row is strained
-pub never_strained : (r : SoftScalarConstraint) (least : Float) → eqb r.kind 0 ≡ false → is_strained r least ≡ false
+pub never_strained : (r : SoftScalarConstraint) (least : Float) → is_distance r.kind ≡ false → is_strained r least ≡ false
 unfolding is_strained
 never_strained r least h = rw h refl
 

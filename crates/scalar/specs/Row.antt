@@ -1,17 +1,18 @@
 -- The scalar row: update, warm start, solve and the test for strain, as soft_scalar_constraint.rs has them, and what `solve_color_constraint` does with one. Definitions only. Assumes nothing.
-use Rattle.std.specs.Prelude.{ℕ, Bool, cond, ◌&&◌, eqb, ltb, Float}
+use Rattle.std.specs.Prelude.{ℕ, Bool, cond, ◌&&◌, ltb, Float}
 use Rattle.std.specs.Float.Ieee.{lt}
 use Rattle.real.specs.Float.{◌⊕◌, ◌⊖◌, ◌⊗◌, ◌⊘◌, f0}
 use Rattle.real.specs.Real.{abs, max, clamp, inv}
 use Rattle.vector.specs.Vector as v
 use Rattle.vector.specs.declared.Vec3.{Vec3}
 use Rattle.vector.specs.declared.Four.{Four}
-use Rattle.places.specs.Places.{Holds, Masses, refreshed}
+use Rattle.places.specs.Places.{Holds, Masses, refreshed, rate_of}
+use Rattle.places.specs.declared.Solved.{Solved}
+use Rattle.gradients.specs.Kind.{is_distance}
 use Rattle.gradients.specs.Gradients.{compute_gradients}
 use Rattle.scalar.specs.declared.Spring.{Spring}
 use Rattle.scalar.specs.declared.Response.{Response}
 use Rattle.scalar.specs.declared.SoftScalarConstraint.{SoftScalarConstraint}
-use Rattle.scalar.specs.declared.Solved.{Solved}
 
 -- ---- update: the positions, the gradients, the effective mass and the bias
 
@@ -46,7 +47,7 @@ update r held =
 -- a distance row whose relative error, by its bias, is past the least strain; the other types never are
 unfoldable pub is_strained : SoftScalarConstraint → Float → Bool
 is_strained r least =
-    eqb r.kind 0
+    is_distance r.kind
     && lt f0 r.spring.erp_inv_dt
     && lt f0 r.spring.rest
     && lt (least ⊗ r.spring.rest) (abs (r.response.rhs ⊘ r.spring.erp_inv_dt))
@@ -74,13 +75,6 @@ losses grad im impulse =
 
 -- ---- solve
 
--- dc += grad·velocity, for the places that are named
-abbrev pub closing : Held → Vec3 → Float → Float
-closing h g dc = cond h.named (dc ⊕ v.dot g h.value) dc
-
-unfoldable pub rate_of : Four Vec3 → Holds → Float
-rate_of grad vel = closing vel.d grad.d (closing vel.c grad.c (closing vel.b grad.b (closing vel.a grad.a f0)))
-
 -- the impulse that answers the rate and the bias, before it is held to its bounds
 unfoldable pub sought_of : Response → Float → Float
 sought_of s dc = s.impulse ⊕ s.inv_lhs ⊗ (dc ⊕ s.rhs ⊖ s.cfm_gain ⊗ s.impulse)
@@ -89,10 +83,10 @@ sought_of s dc = s.impulse ⊕ s.inv_lhs ⊗ (dc ⊕ s.rhs ⊖ s.cfm_gain ⊗ s.
 unfoldable pub total_of : Spring → Response → Float → Float
 total_of p s dc = clamp (sought_of s dc) p.lower p.upper
 
-unfoldable pub solve : SoftScalarConstraint → Holds → Solved
+unfoldable pub solve : SoftScalarConstraint → Holds → Solved SoftScalarConstraint
 solve r vel =
     let total = total_of r.spring r.response (rate_of r.grad vel) in
-    record { row = with_impulse r total; loss = losses r.grad r.im (total ⊖ r.response.impulse) }
+    record { state = with_impulse r total; loss = losses r.grad r.im (total ⊖ r.response.impulse) }
 
 -- ---- as `solve_color_constraint` calls them
 
@@ -107,7 +101,7 @@ unfoldable pub begin : SoftScalarConstraint → Holds → SoftScalarConstraint
 begin r held = update (with_peak r) held
 
 -- the warm start of the main sweep: the impulse times the coefficient, applied
-unfoldable pub warmstart : SoftScalarConstraint → Float → Solved
+unfoldable pub warmstart : SoftScalarConstraint → Float → Solved SoftScalarConstraint
 warmstart r coeff =
     let impulse = r.response.impulse ⊗ coeff in
-    record { row = with_impulse r impulse; loss = losses r.grad r.im impulse }
+    record { state = with_impulse r impulse; loss = losses r.grad r.im impulse }

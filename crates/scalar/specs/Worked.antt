@@ -1,5 +1,5 @@
 -- The worked examples of the distance row: mode 1, which is the update and then the solve, of a row of two particles at rest. Assumes nothing.
-use Rattle.std.specs.Prelude.{refl, Bool, true, false, List, [], ◌∷◌, Float}
+use Rattle.std.specs.Prelude.{refl, true, false, List, [], ◌∷◌, Float, Option, Some, None}
 use Rattle.std.specs.Int.Count.{count_leading_zeros}
 use Rattle.std.specs.Float.Ieee as ieee
 use Rattle.std.specs.Float.{inf}
@@ -11,10 +11,11 @@ use Rattle.root.specs.Root.{root_of, root_bits, sig, power, near_root, floor_roo
 use Rattle.vector.specs.Vector as v
 use Rattle.vector.specs.declared.Vec3.{Vec3}
 use Rattle.vector.specs.declared.Four.{Four}
-use Rattle.places.specs.Places.{refreshed}
-use Rattle.places.specs.declared.Holds as places
+use Rattle.places.specs.Places as places
+use Rattle.places.specs.Places.{refreshed, rate_of}
+use Rattle.gradients.specs.declared.ScalarKind.TheVariants.{Distance}
 use Rattle.gradients.specs.Gradients.{compute_gradients, distance_gradients, unit_x}
-use Rattle.scalar.specs.Row.{weight_of, respond, update, losses, rate_of, sought_of, total_of, solve, with_peak, begin}
+use Rattle.scalar.specs.Row.{weight_of, respond, update, losses, sought_of, total_of, solve, with_peak, begin}
 use Rattle.scalar.specs.declared.SoftScalarConstraint.{SoftScalarConstraint}
 
 abbrev on_x : Float → Vec3
@@ -27,7 +28,7 @@ origins = record { a = on_x f0; b = on_x f0; c = on_x f0; d = on_x f0 }
 abbrev distance_row : Float → SoftScalarConstraint
 distance_row upper =
     record {
-      kind = 0;
+      kind = Distance;
       count = 2;
       pos = origins;
       im = record { a = f1; b = f1; c = f1; d = f1 };
@@ -36,18 +37,15 @@ distance_row upper =
       response = record { inv_lhs = f0; cfm_gain = f0; rhs = f0; impulse = f0; peak_impulse = f0 };
     }
 
-abbrev held : Bool → Float → Held
-held b x = record { named = b; value = on_x x }
-
 -- two places that hold x and y, and two that are not named
 abbrev two : Float → Float → places.Holds
-two x y = record { a = held true x; b = held true y; c = held false f0; d = held false f0 }
+two x y = record { a = Some (on_x x); b = Some (on_x y); c = None; d = None }
 
 -- the impulse, and the velocities along x of particles that were at rest at 0 and x
 abbrev pub answer : Float → Float → List Float
 answer x upper =
     let s = solve (begin (distance_row upper) (two f0 x)) (two f0 f0) in
-    s.row.response.impulse ∷ (f0 ⊖ s.loss.a.x) ∷ (f0 ⊖ s.loss.b.x) ∷ []
+    s.state.response.impulse ∷ (f0 ⊖ s.loss.a.x) ∷ (f0 ⊖ s.loss.b.x) ∷ []
 
 -- points (0,0,0) and (2,0,0) with infinite bounds; with the upper bound 0.25; both points at the origin
 abbrev pub worked : List Row

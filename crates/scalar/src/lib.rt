@@ -5,9 +5,10 @@
 ghost use Rattle.std.specs.Prelude.{◌≡◌};
 ghost use Rattle.scalar.specs.Row as spec;
 
-use places::{Held, Holds, Masses};
+use gradients::ScalarKind;
+use places::{Holds, Masses, Solved};
 use real::{abs, clamp, inv, max, pick};
-use vector::{Four, Vec3, dot, scale};
+use vector::{Four, Vec3};
 
 // What no step alters.
 #[repr(C)]
@@ -31,25 +32,17 @@ pub struct Response {
     pub peak_impulse: f32,
 }
 
-// `kind` is 0 distance, 1 dihedral, 2 cell volume.
+// A row names its first `count` places.
 #[repr(C)]
 #[derive(Clone, Copy)]
 pub struct SoftScalarConstraint {
-    pub kind: u32,
+    pub kind: ScalarKind,
     pub count: u32,
-    pub pos: Four,
+    pub pos: Four<Vec3>,
     pub im: Masses,
-    pub grad: Four,
+    pub grad: Four<Vec3>,
     pub spring: Spring,
     pub response: Response,
-}
-
-// The row anew, and what each place is to lose.
-#[repr(C)]
-#[derive(Clone, Copy)]
-pub struct Solved {
-    pub row: SoftScalarConstraint,
-    pub loss: Four,
 }
 
 // ---- update
@@ -58,10 +51,11 @@ pub struct Solved {
 fn weigh(count: u32, k: u32, g: Vec3, im: f32, w: f32) -> f32
     ensures { result ≡ spec.weigh count k g im w }
 {
-    pick(k < count, w + dot(g, scale(g, im)), w)
+    pick(k < count, w + g.dot(g * im), w)
 }
 
-fn weight_of(count: u32, grad: Four, im: Masses) -> f32
+#[tactic(auto, unfolding(crate::specs::Row::weight_of))]
+fn weight_of(count: u32, grad: Four<Vec3>, im: Masses) -> f32
     ensures { result ≡ spec.weight_of count grad im }
 {
     let a = weigh(count, 0, grad.a, im.a, 0.0);
@@ -70,6 +64,7 @@ fn weight_of(count: u32, grad: Four, im: Masses) -> f32
     weigh(count, 3, grad.d, im.d, c)
 }
 
+#[tactic(auto, unfolding(crate::specs::Row::respond))]
 fn respond(p: Spring, s: Response, w: f32, e: f32) -> Response
     ensures { result ≡ spec.respond p s w e }
 {
@@ -78,30 +73,30 @@ fn respond(p: Spring, s: Response, w: f32, e: f32) -> Response
         inv_lhs: inv(w + gain),
         cfm_gain: gain,
         rhs: e * p.erp_inv_dt,
-        impulse: s.impulse,
-        peak_impulse: s.peak_impulse,
+        ..s
     }
 }
 
+#[tactic(auto, unfolding(crate::specs::Row::update))]
 pub fn update(r: SoftScalarConstraint, held: Holds) -> SoftScalarConstraint
     ensures { result ≡ spec.update r held }
 {
     let pos = places::refreshed(held, r.pos);
     let g = gradients::gradient::compute_gradients(r.kind, pos, r.grad, r.spring.rest);
-    let grad = g.grad;
-    let w = weight_of(r.count, grad, r.im);
-    let response = respond(r.spring, r.response, w, g.error);
-    let mut q = r;
-    q.pos = pos;
-    q.grad = grad;
-    q.response = response;
-    q
+    let w = weight_of(r.count, g.grad, r.im);
+    SoftScalarConstraint {
+        pos,
+        grad: g.grad,
+        response: respond(r.spring, r.response, w, g.error),
+        ..r
+    }
 }
 
+#[tactic(auto, unfolding(crate::specs::Row::is_strained))]
 pub fn is_strained(r: SoftScalarConstraint, least: f32) -> bool
     ensures { result ≡ spec.is_strained r least }
 {
-    (r.kind == 0)
+    (r.kind == ScalarKind::Distance)
         & (r.spring.erp_inv_dt > 0.0)
         & (r.spring.rest > 0.0)
         & (abs(r.response.rhs / r.spring.erp_inv_dt) > least * r.spring.rest)
@@ -109,84 +104,79 @@ pub fn is_strained(r: SoftScalarConstraint, least: f32) -> bool
 
 // ---- warm start and solve. The parts are public for who has no use for a whole row.
 
-fn with_impulse(r: SoftScalarConstraint, x: f32) -> SoftScalarConstraint
-    ensures { result ≡ spec.with_impulse r x }
+fn with_impulse(r: SoftScalarConstraint, impulse: f32) -> SoftScalarConstraint
+    ensures { result ≡ spec.with_impulse r impulse }
 {
-    let mut q = r;
-    q.response.impulse = x;
-    q
-}
-
-pub fn losses(grad: Four, im: Masses, impulse: f32) -> Four
-    ensures { result ≡ spec.losses grad im impulse }
-{
-    Four {
-        a: scale(scale(grad.a, im.a), impulse),
-        b: scale(scale(grad.b, im.b), impulse),
-        c: scale(scale(grad.c, im.c), impulse),
-        d: scale(scale(grad.d, im.d), impulse),
+    SoftScalarConstraint {
+        response: Response {
+            impulse,
+            ..r.response
+        },
+        ..r
     }
 }
 
-pub fn warmstart(r: SoftScalarConstraint, coeff: f32) -> Solved
+#[tactic(auto, unfolding(crate::specs::Row::losses))]
+pub fn losses(grad: Four<Vec3>, im: Masses, impulse: f32) -> Four<Vec3>
+    ensures { result ≡ spec.losses grad im impulse }
+{
+    grad.zip(im, |g, w| g * w * impulse)
+}
+
+#[tactic(auto, unfolding(crate::specs::Row::warmstart))]
+pub fn warmstart(r: SoftScalarConstraint, coeff: f32) -> Solved<SoftScalarConstraint>
     ensures { result ≡ spec.warmstart r coeff }
 {
     let impulse = r.response.impulse * coeff;
     Solved {
-        row: with_impulse(r, impulse),
+        state: with_impulse(r, impulse),
         loss: losses(r.grad, r.im, impulse),
     }
 }
 
-fn closing(h: Held, g: Vec3, dc: f32) -> f32
-    ensures { result ≡ spec.closing h g dc }
-{
-    pick(h.named, dc + dot(g, h.value), dc)
-}
-
-pub fn rate_of(grad: Four, vel: Holds) -> f32
-    ensures { result ≡ spec.rate_of grad vel }
-{
-    let a = closing(vel.a, grad.a, 0.0);
-    let b = closing(vel.b, grad.b, a);
-    let c = closing(vel.c, grad.c, b);
-    closing(vel.d, grad.d, c)
-}
-
 // Before the bounds.
+#[tactic(auto, unfolding(crate::specs::Row::sought_of))]
 pub fn sought_of(s: Response, dc: f32) -> f32
     ensures { result ≡ spec.sought_of s dc }
 {
     s.impulse + s.inv_lhs * (dc + s.rhs - s.cfm_gain * s.impulse)
 }
 
+#[tactic(auto, unfolding(crate::specs::Row::total_of))]
 pub fn total_of(p: Spring, s: Response, dc: f32) -> f32
     ensures { result ≡ spec.total_of p s dc }
 {
     clamp(sought_of(s, dc), p.lower, p.upper)
 }
 
-pub fn solve(r: SoftScalarConstraint, vel: Holds) -> Solved
+#[tactic(auto, unfolding(crate::specs::Row::solve))]
+pub fn solve(r: SoftScalarConstraint, vel: Holds) -> Solved<SoftScalarConstraint>
     ensures { result ≡ spec.solve r vel }
 {
-    let total = total_of(r.spring, r.response, rate_of(r.grad, vel));
+    let total = total_of(r.spring, r.response, places::rate_of(r.grad, vel));
     Solved {
-        row: with_impulse(r, total),
+        state: with_impulse(r, total),
         loss: losses(r.grad, r.im, total - r.response.impulse),
     }
 }
 
 // ---- as `solve_color_constraint` calls them
 
+#[tactic(auto, unfolding(crate::specs::Row::with_peak))]
 pub fn with_peak(r: SoftScalarConstraint) -> SoftScalarConstraint
     ensures { result ≡ spec.with_peak r }
 {
-    let peak = max(r.response.peak_impulse, r.response.impulse);
-    let mut q = r;
-    q.response.peak_impulse = peak;
-    q
+    let peak_impulse = max(r.response.peak_impulse, r.response.impulse);
+    SoftScalarConstraint {
+        response: Response {
+            peak_impulse,
+            ..r.response
+        },
+        ..r
+    }
 }
 
+#[tactic(auto, unfolding(crate::specs::Row::begin))]
 pub fn begin(r: SoftScalarConstraint, held: Holds) -> SoftScalarConstraint
     ensures { result ≡ spec.begin r held }
 {

@@ -1,5 +1,0 @@
--- `scalar::closing` meets its contract. Its calls are the definition's. Assumes nothing.
-use Rattle.scalar.proofs.closing.Goals as goal
-
-pub returns : goal.returns
-returns c = cc

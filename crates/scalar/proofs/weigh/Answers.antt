@@ -1,5 +1,0 @@
--- `scalar::weigh` meets its contract. Its calls are the definition's. Assumes nothing.
-use Rattle.scalar.proofs.weigh.Goals as goal
-
-pub returns : goal.returns
-returns c = cc
