@@ -7,126 +7,96 @@ ghost use Rattle.std.specs.Prelude.{◌≡◌, ◌≤◌, length};
 ghost use Rattle.records.specs.Layout as at;
 ghost use Rattle.scalar.specs.Row as s;
 ghost use Rattle.floats.specs.Fields.{put_f32};
-ghost use Rattle.floats.specs.Written.{AllWritten, Kept};
+ghost use Rattle.floats.specs.Written.{Kept};
 ghost use Rattle.stored.specs.Read.{spring_at, response_at, scalar_of};
 ghost use Rattle.stored.specs.Put.{put_flag, put_response, put_scalar};
 
-use floats::{f32_at, four_at, masses_at, put_f32, put_four};
-use little_endian::get_u16;
-use places::Holds;
+use floats::Field;
+use floats::row_bytes::RowBytes;
+use gradients::ScalarKind;
+use places::{Holds, Solved};
 use records::layout;
-use scalar::{Response, SoftScalarConstraint, Solved, Spring};
+use scalar::{Response, SoftScalarConstraint, Spring};
 use stored::put_flag;
+
+// The bytes of a scalar row.
+type Bytes<'a> = RowBytes<'a, { layout::SCALAR_END }>;
 
 // ---- read
 
-fn wide(n: u16) -> u32
-    ensures { result ≡ n }
-{
-    n as u32
-}
-
-fn spring_at(b: &[u8]) -> Spring
-    requires { (182 ≤ length b.now) × AllWritten b.now }
-    ensures { result ≡ spring_at b.now }
+#[tactic(auto, unfolding(stored::specs::Read::spring_at))]
+fn spring_at(b: Bytes) -> Spring
+    ensures { result ≡ spring_at b.entry.bytes.now }
 {
     Spring {
-        rest: f32_at(b, layout::SCALAR_REST),
-        erp_inv_dt: f32_at(b, layout::SCALAR_ERP_INV_DT),
-        cfm_coeff: f32_at(b, layout::SCALAR_CFM_COEFF),
-        lower: f32_at(b, layout::SCALAR_LOWER),
-        upper: f32_at(b, layout::SCALAR_UPPER),
+        rest: b.get(layout::SCALAR_REST),
+        erp_inv_dt: b.get(layout::SCALAR_ERP_INV_DT),
+        cfm_coeff: b.get(layout::SCALAR_CFM_COEFF),
+        lower: b.get(layout::SCALAR_LOWER),
+        upper: b.get(layout::SCALAR_UPPER),
     }
 }
 
-fn response_at(b: &[u8]) -> Response
-    requires { (182 ≤ length b.now) × AllWritten b.now }
-    ensures { result ≡ response_at b.now }
+#[tactic(auto, unfolding(stored::specs::Read::response_at))]
+fn response_at(b: Bytes) -> Response
+    ensures { result ≡ response_at b.entry.bytes.now }
 {
     Response {
-        inv_lhs: f32_at(b, layout::SCALAR_INV_LHS),
-        cfm_gain: f32_at(b, layout::SCALAR_CFM_GAIN),
-        rhs: f32_at(b, layout::SCALAR_RHS),
-        impulse: f32_at(b, layout::SCALAR_IMPULSE),
-        peak_impulse: f32_at(b, layout::SCALAR_PEAK_IMPULSE),
+        inv_lhs: b.get(layout::SCALAR_INV_LHS),
+        cfm_gain: b.get(layout::SCALAR_CFM_GAIN),
+        rhs: b.get(layout::SCALAR_RHS),
+        impulse: b.get(layout::SCALAR_IMPULSE),
+        peak_impulse: b.get(layout::SCALAR_PEAK_IMPULSE),
     }
 }
 
-// The whole row. It stands three times, once for each phase: a function with one caller is compiled into it, and the fields that the phase
-// does not use are never read. One function for all three made scalar sheets take up to twice as long.
-fn row_to_update(b: &[u8]) -> SoftScalarConstraint
-    requires { (182 ≤ length b.now) × AllWritten b.now }
-    ensures { result ≡ scalar_of b.now }
+// What f makes of the whole row. There is an instance for each phase's f: a function with one caller is compiled into it, and the fields
+// that the phase does not use are never read. One function for all three made scalar sheets take up to twice as long.
+#[tactic(auto, unfolding(stored::specs::Read::scalar_of, floats::specs::Fields::four_at, floats::specs::Fields::masses_at))]
+fn with_row<R, F: FnOnce(SoftScalarConstraint) -> R>(b: Bytes, f: F) -> R
+    requires { F.pre f (scalar_of b.bytes.now) }
+    ensures { F.post f (scalar_of b.entry.bytes.now) result }
 {
-    SoftScalarConstraint {
-        kind: wide(get_u16(b, layout::SCALAR_TYPE)),
-        count: wide(get_u16(b, layout::SCALAR_COUNT)),
-        pos: four_at(b, layout::ROW_POS),
-        im: masses_at(b, layout::ROW_IM),
-        grad: four_at(b, layout::SCALAR_GRAD),
+    f(SoftScalarConstraint {
+        kind: ScalarKind::from(u32::from(b.get_u16(layout::SCALAR_TYPE))),
+        count: u32::from(b.get_u16(layout::SCALAR_COUNT)),
+        pos: b.get(layout::ROW_POS),
+        im: b.get(layout::ROW_IM),
+        grad: b.get(layout::SCALAR_GRAD),
         spring: spring_at(b),
         response: response_at(b),
-    }
-}
-
-fn row_to_warm(b: &[u8]) -> SoftScalarConstraint
-    requires { (182 ≤ length b.now) × AllWritten b.now }
-    ensures { result ≡ scalar_of b.now }
-{
-    SoftScalarConstraint {
-        kind: wide(get_u16(b, layout::SCALAR_TYPE)),
-        count: wide(get_u16(b, layout::SCALAR_COUNT)),
-        pos: four_at(b, layout::ROW_POS),
-        im: masses_at(b, layout::ROW_IM),
-        grad: four_at(b, layout::SCALAR_GRAD),
-        spring: spring_at(b),
-        response: response_at(b),
-    }
-}
-
-fn row_to_solve(b: &[u8]) -> SoftScalarConstraint
-    requires { (182 ≤ length b.now) × AllWritten b.now }
-    ensures { result ≡ scalar_of b.now }
-{
-    SoftScalarConstraint {
-        kind: wide(get_u16(b, layout::SCALAR_TYPE)),
-        count: wide(get_u16(b, layout::SCALAR_COUNT)),
-        pos: four_at(b, layout::ROW_POS),
-        im: masses_at(b, layout::ROW_IM),
-        grad: four_at(b, layout::SCALAR_GRAD),
-        spring: spring_at(b),
-        response: response_at(b),
-    }
+    })
 }
 
 // ---- put
 
+#[tactic(auto, unfolding(stored::specs::Put::put_response))]
 fn put_response(b: &mut [u8], s: Response)
     requires { 182 ≤ length b.old }
     ensures { (b.new ≡ put_response s b.old) × Kept b.old b.new }
 {
-    put_f32(b, layout::SCALAR_INV_LHS, s.inv_lhs);
-    put_f32(b, layout::SCALAR_CFM_GAIN, s.cfm_gain);
-    put_f32(b, layout::SCALAR_RHS, s.rhs);
-    put_f32(b, layout::SCALAR_PEAK_IMPULSE, s.peak_impulse);
+    s.inv_lhs.put(b, layout::SCALAR_INV_LHS);
+    s.cfm_gain.put(b, layout::SCALAR_CFM_GAIN);
+    s.rhs.put(b, layout::SCALAR_RHS);
+    s.peak_impulse.put(b, layout::SCALAR_PEAK_IMPULSE);
 }
 
+#[tactic(auto, unfolding(stored::specs::Put::put_scalar, floats::specs::Fields::put_four))]
 fn put_scalar(b: &mut [u8], r: SoftScalarConstraint)
     requires { 182 ≤ length b.old }
     ensures { (b.new ≡ put_scalar r b.old) × Kept b.old b.new }
 {
-    put_four(b, layout::ROW_POS, r.pos);
-    put_four(b, layout::SCALAR_GRAD, r.grad);
+    r.pos.put(b, layout::ROW_POS);
+    r.grad.put(b, layout::SCALAR_GRAD);
     put_response(b, r.response);
 }
 
 // ---- the phases: what each makes of the row, and what it puts
 
-pub fn begun(b: &[u8], held: Holds) -> SoftScalarConstraint
-    requires { (182 ≤ length b.now) × AllWritten b.now }
-    ensures { result ≡ s.begin (scalar_of b.now) held }
+pub fn begun(b: Bytes, held: Holds) -> SoftScalarConstraint
+    ensures { result ≡ s.begin (scalar_of b.entry.bytes.now) held }
 {
-    scalar::begin(row_to_update(b), held)
+    with_row(b, |r| scalar::begin(r, held))
 }
 
 pub fn put_begun(b: &mut [u8], r: SoftScalarConstraint, least: f32)
@@ -137,18 +107,16 @@ pub fn put_begun(b: &mut [u8], r: SoftScalarConstraint, least: f32)
     put_flag(b, layout::ROW_STRAINED, scalar::is_strained(r, least));
 }
 
-pub fn warmed(b: &[u8], coeff: f32) -> Solved
-    requires { (182 ≤ length b.now) × AllWritten b.now }
-    ensures { result ≡ s.warmstart (scalar_of b.now) coeff }
+pub fn warmed(b: Bytes, coeff: f32) -> Solved<SoftScalarConstraint>
+    ensures { result ≡ s.warmstart (scalar_of b.entry.bytes.now) coeff }
 {
-    scalar::warmstart(row_to_warm(b), coeff)
+    with_row(b, |r| scalar::warmstart(r, coeff))
 }
 
-pub fn solved(b: &[u8], vel: Holds) -> Solved
-    requires { (182 ≤ length b.now) × AllWritten b.now }
-    ensures { result ≡ s.solve (scalar_of b.now) vel }
+pub fn solved(b: Bytes, vel: Holds) -> Solved<SoftScalarConstraint>
+    ensures { result ≡ s.solve (scalar_of b.entry.bytes.now) vel }
 {
-    scalar::solve(row_to_solve(b), vel)
+    with_row(b, |r| scalar::solve(r, vel))
 }
 
 // What a warm start and a solve assign.
@@ -156,5 +124,5 @@ pub fn put_impulse(b: &mut [u8], r: SoftScalarConstraint)
     requires { 182 ≤ length b.old }
     ensures { (b.new ≡ put_f32 b.old at.scalar_impulse r.response.impulse) × Kept b.old b.new }
 {
-    put_f32(b, layout::SCALAR_IMPULSE, r.response.impulse);
+    r.response.impulse.put(b, layout::SCALAR_IMPULSE);
 }
