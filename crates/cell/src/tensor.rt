@@ -6,6 +6,7 @@ ghost use Rattle.cell.specs.Strain as spec;
 use places::Masses;
 use vector::{Four, Mat3, Vec3};
 
+#[tactic(auto, unfolding(crate::specs::Strain::strain_rows_of))]
 pub fn strain_rows_of(m: Mat3) -> [f32; 6]
     ensures { result ≡ spec.strain_rows_of m }
 {
@@ -19,6 +20,7 @@ pub fn strain_rows_of(m: Mat3) -> [f32; 6]
     ]
 }
 
+#[tactic(auto, unfolding(crate::specs::Strain::strain_rows_dual))]
 pub fn strain_rows_dual(m: Mat3) -> [f32; 6]
     ensures { result ≡ spec.strain_rows_dual m }
 {
@@ -32,6 +34,7 @@ pub fn strain_rows_dual(m: Mat3) -> [f32; 6]
     ]
 }
 
+#[tactic(auto, unfolding(crate::specs::Strain::strain_tensor))]
 pub fn strain_tensor(l: &[f32; 6]) -> Mat3
     ensures { result ≡ spec.strain_tensor l.now }
 {
@@ -57,6 +60,7 @@ pub fn strain_tensor(l: &[f32; 6]) -> Mat3
     }
 }
 
+#[tactic(auto, unfolding(crate::specs::Strain::strain_matrix))]
 pub fn strain_matrix(e: &[f32; 6]) -> Mat3
     ensures { result ≡ spec.strain_matrix e.now }
 {
@@ -80,16 +84,14 @@ pub fn strain_matrix(e: &[f32; 6]) -> Mat3
 }
 
 // A column of `outer_sum`: the vectors of a times the numbers of b's.
-fn outer_column(a: Four, k0: f32, k1: f32, k2: f32, k3: f32) -> Vec3
+fn outer_column(a: Four<Vec3>, k0: f32, k1: f32, k2: f32, k3: f32) -> Vec3
     ensures { result ≡ spec.outer_column a k0 k1 k2 k3 }
 {
-    let s0 = vector::add(vector::zero_vector(), vector::scale(a.a, k0));
-    let s1 = vector::add(s0, vector::scale(a.b, k1));
-    let s2 = vector::add(s1, vector::scale(a.c, k2));
-    vector::add(s2, vector::scale(a.d, k3))
+    Vec3::zero() + a.a * k0 + a.b * k1 + a.c * k2 + a.d * k3
 }
 
-pub fn outer_sum(a: Four, b: Four) -> Mat3
+#[tactic(auto, unfolding(crate::specs::Strain::outer_sum))]
+pub fn outer_sum(a: Four<Vec3>, b: Four<Vec3>) -> Mat3
     ensures { result ≡ spec.outer_sum a b }
 {
     Mat3 {
@@ -99,20 +101,17 @@ pub fn outer_sum(a: Four, b: Four) -> Mat3
     }
 }
 
-pub fn weighted(c: Four, im: Masses) -> Four
+#[tactic(auto, unfolding(crate::specs::Strain::weighted))]
+pub fn weighted(c: Four<Vec3>, im: Masses) -> Four<Vec3>
     ensures { result ≡ spec.weighted c im }
 {
-    Four {
-        a: vector::scale(c.a, im.a),
-        b: vector::scale(c.b, im.b),
-        c: vector::scale(c.c, im.c),
-        d: vector::scale(c.d, im.d),
-    }
+    c.zip(im, |c, w| c * w)
 }
 
 // ---- the effective-mass block
 
 // One entry. A delta of 0 multiplies too: 0 times an infinity is a NaN, and a sum that starts at -0 becomes +0.
+#[tactic(auto, unfolding(crate::specs::Columns::quarter))]
 fn quarter(ik: f32, il: f32, jk: f32, jl: f32, gik: f32, gil: f32, gjk: f32, gjl: f32) -> f32
     ensures { result ≡ columns.quarter ik il jk jl gik gil gjk gjl }
 {
@@ -120,6 +119,7 @@ fn quarter(ik: f32, il: f32, jk: f32, jl: f32, gik: f32, gil: f32, gjk: f32, gjl
 }
 
 // A column (k, l): k and l are unit vectors, gk and gl columns k and l of G.
+#[tactic(auto, unfolding(crate::specs::Columns::block_column))]
 fn block_column(k: Vec3, gk: Vec3, l: Vec3, gl: Vec3) -> [f32; 6]
     ensures { result ≡ columns.block_column k gk l gl }
 {
@@ -134,6 +134,7 @@ fn block_column(k: Vec3, gk: Vec3, l: Vec3, gl: Vec3) -> [f32; 6]
 }
 
 // A 6x6 matrix of its columns.
+#[tactic(auto, unfolding(crate::specs::Columns::from_columns))]
 pub fn from_columns(
     c0: &[f32; 6],
     c1: &[f32; 6],
@@ -154,10 +155,11 @@ pub fn from_columns(
     r
 }
 
+#[tactic(auto, using(crate::specs::Columns::by_columns))]
 pub fn strain_block_from_g(g: Mat3) -> [f32; 36]
     ensures { result ≡ spec.strain_block_from_g g }
 {
-    let e = vector::matrix::identity();
+    let e = Mat3::identity();
     let c0 = block_column(e.x, g.x, e.x, g.x);
     let c1 = block_column(e.y, g.y, e.y, g.y);
     let c2 = block_column(e.z, g.z, e.z, g.z);
