@@ -2,53 +2,51 @@
 #![tactic(auto)]
 
 ghost use Rattle.std.specs.Prelude.{◌≡◌, ◌<◌, length};
+ghost use Rattle.real.specs.Float.{◌⊕◌, ◌⊖◌, ◌⊗◌, at};
 ghost use Rattle.strain.specs.Columns as columns;
 ghost use Rattle.strain.specs.Matrix as matrix;
 ghost use Rattle.strain.specs.Parts as parts;
 ghost use Rattle.strain.specs.Six as six;
 
 use real::abs;
+use std::array::from_fn;
 
 // ---- lists of N floats, part by part: N is 6 for a strain, 36 for a matrix
 
 pub fn add<const N: usize>(a: &[f32; N], b: &[f32; N]) -> [f32; N]
     ensures { result ≡ parts.add N a.now b.now }
 {
-    let mut r = [0.0f32; N];
-    for k in 0..N {
-        r[k] = a[k] + b[k];
-    }
-    r
+    from_fn(|k: usize| -> f32
+        requires { k < N }
+        ensures { result ≡ at a.now k ⊕ at b.now k }
+    { a[k] + b[k] })
 }
 
 pub fn sub<const N: usize>(a: &[f32; N], b: &[f32; N]) -> [f32; N]
     ensures { result ≡ parts.sub N a.now b.now }
 {
-    let mut r = [0.0f32; N];
-    for k in 0..N {
-        r[k] = a[k] - b[k];
-    }
-    r
+    from_fn(|k: usize| -> f32
+        requires { k < N }
+        ensures { result ≡ at a.now k ⊖ at b.now k }
+    { a[k] - b[k] })
 }
 
 pub fn component_mul<const N: usize>(a: &[f32; N], b: &[f32; N]) -> [f32; N]
     ensures { result ≡ parts.component_mul N a.now b.now }
 {
-    let mut r = [0.0f32; N];
-    for k in 0..N {
-        r[k] = a[k] * b[k];
-    }
-    r
+    from_fn(|k: usize| -> f32
+        requires { k < N }
+        ensures { result ≡ at a.now k ⊗ at b.now k }
+    { a[k] * b[k] })
 }
 
 pub fn scale<const N: usize>(a: &[f32; N], s: f32) -> [f32; N]
     ensures { result ≡ parts.scale N a.now s }
 {
-    let mut r = [0.0f32; N];
-    for k in 0..N {
-        r[k] = a[k] * s;
-    }
-    r
+    from_fn(|k: usize| -> f32
+        requires { k < N }
+        ensures { result ≡ at a.now k ⊗ s }
+    { a[k] * s })
 }
 
 // ---- six-vectors
