@@ -83,11 +83,11 @@ pub fn strain_matrix(e: &[f32; 6]) -> Mat3
     }
 }
 
-// A column of `outer_sum`: the vectors of a times the numbers of b's.
-fn outer_column(a: Four<Vec3>, k0: f32, k1: f32, k2: f32, k3: f32) -> Vec3
-    ensures { result ≡ spec.outer_column a k0 k1 k2 k3 }
+// A column of `outer_sum`: the vectors of a times the numbers k.
+fn outer_column(a: Four<Vec3>, k: Four<f32>) -> Vec3
+    ensures { result ≡ spec.outer_column a k.a k.b k.c k.d }
 {
-    Vec3::zero() + a.a * k0 + a.b * k1 + a.c * k2 + a.d * k3
+    Vec3::zero() + a.a * k.a + a.b * k.b + a.c * k.c + a.d * k.d
 }
 
 #[tactic(auto, unfolding(crate::specs::Strain::outer_sum))]
@@ -95,9 +95,9 @@ pub fn outer_sum(a: Four<Vec3>, b: Four<Vec3>) -> Mat3
     ensures { result ≡ spec.outer_sum a b }
 {
     Mat3 {
-        x: outer_column(a, b.a.x, b.b.x, b.c.x, b.d.x),
-        y: outer_column(a, b.a.y, b.b.y, b.c.y, b.d.y),
-        z: outer_column(a, b.a.z, b.b.z, b.c.z, b.d.z),
+        x: outer_column(a, b.map(|v| v.x)),
+        y: outer_column(a, b.map(|v| v.y)),
+        z: outer_column(a, b.map(|v| v.z)),
     }
 }
 
@@ -135,23 +135,16 @@ fn block_column(k: Vec3, gk: Vec3, l: Vec3, gl: Vec3) -> [f32; 6]
 
 // A 6x6 matrix of its columns.
 #[tactic(auto, unfolding(crate::specs::Columns::from_columns))]
-pub fn from_columns(
-    c0: &[f32; 6],
-    c1: &[f32; 6],
-    c2: &[f32; 6],
-    c3: &[f32; 6],
-    c4: &[f32; 6],
-    c5: &[f32; 6],
-) -> [f32; 36]
-    ensures { result ≡ columns.from_columns c0.now c1.now c2.now c3.now c4.now c5.now }
+pub fn from_columns(c: &[[f32; 6]; 6]) -> [f32; 36]
+    ensures { result ≡ columns.from_columns c.now }
 {
     let mut r = [0.0f32; 36];
-    strain::set_column(&mut r, 0, c0);
-    strain::set_column(&mut r, 1, c1);
-    strain::set_column(&mut r, 2, c2);
-    strain::set_column(&mut r, 3, c3);
-    strain::set_column(&mut r, 4, c4);
-    strain::set_column(&mut r, 5, c5);
+    strain::set_column(&mut r, 0, &c[0]);
+    strain::set_column(&mut r, 1, &c[1]);
+    strain::set_column(&mut r, 2, &c[2]);
+    strain::set_column(&mut r, 3, &c[3]);
+    strain::set_column(&mut r, 4, &c[4]);
+    strain::set_column(&mut r, 5, &c[5]);
     r
 }
 
@@ -160,11 +153,12 @@ pub fn strain_block_from_g(g: Mat3) -> [f32; 36]
     ensures { result ≡ spec.strain_block_from_g g }
 {
     let e = Mat3::identity();
-    let c0 = block_column(e.x, g.x, e.x, g.x);
-    let c1 = block_column(e.y, g.y, e.y, g.y);
-    let c2 = block_column(e.z, g.z, e.z, g.z);
-    let c3 = block_column(e.x, g.x, e.y, g.y);
-    let c4 = block_column(e.x, g.x, e.z, g.z);
-    let c5 = block_column(e.y, g.y, e.z, g.z);
-    from_columns(&c0, &c1, &c2, &c3, &c4, &c5)
+    from_columns(&[
+        block_column(e.x, g.x, e.x, g.x),
+        block_column(e.y, g.y, e.y, g.y),
+        block_column(e.z, g.z, e.z, g.z),
+        block_column(e.x, g.x, e.y, g.y),
+        block_column(e.x, g.x, e.z, g.z),
+        block_column(e.y, g.y, e.z, g.z),
+    ])
 }

@@ -41,14 +41,7 @@ pub fn capped(inverted: bool, e: f32, cap: f32) -> f32
 fn capped_strain(inverted: bool, e: &[f32; 6], caps: &[f32; 6]) -> [f32; 6]
     ensures { result ≡ spec.capped_strain inverted e.now caps.now }
 {
-    [
-        capped(inverted, e[0], caps[0]),
-        capped(inverted, e[1], caps[1]),
-        capped(inverted, e[2], caps[2]),
-        capped(inverted, e[3], caps[3]),
-        capped(inverted, e[4], caps[4]),
-        capped(inverted, e[5], caps[5]),
-    ]
+    std::array::from_fn(|i| capped(inverted, e[i], caps[i]))
 }
 
 // The corotated strain: sym(RᵀF) - I.
