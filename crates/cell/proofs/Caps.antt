@@ -1,7 +1,7 @@
 -- A cap is raised to 1 where the cell is not inverted, and nowhere else. Assumes nothing.
-use mathlib.Core.Path.{◌≡◌, refl}
-use mathlib.Core.Bool.{true, false}
-use lib.Ieee.{Float, binary32, of_bits, neg, lt, le, eq, is_nan}
+use Rattle.std.specs.Prelude.{◌≡◌, refl, true, false, Float}
+use Rattle.std.specs.Float.{binary32}
+use Rattle.std.specs.Float.Ieee.{of_bits, neg, lt, le, eq, is_nan}
 use Rattle.real.specs.Float.{f1, f2}
 use Rattle.real.specs.Real.{max, clamp}
 use Rattle.cell.specs.Cell.{cap_of, capped}

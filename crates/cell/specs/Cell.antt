@@ -1,8 +1,8 @@
 -- What both elastic rows share: the update of positions, rotation and strain, the velocities in the cell's frame, and what an impulse takes from each place. As soft_elastic_constraint.rs has them. Definitions only. Assumes nothing.
-use Rattle.std.specs.Prelude.{Bool, cond, List, Float}
+use Rattle.std.specs.Prelude.{Bool, cond, List, Float, Option, Some, None}
 use Rattle.std.specs.Float.Ieee.{lt, neg}
 use Rattle.loops.specs.Fill.{tabulate}
-use Rattle.real.specs.Float.{at, f0, f1}
+use Rattle.real.specs.Float.{◌⊗◌, at, f0, f1}
 use Rattle.real.specs.Real.{max, clamp}
 use Rattle.vector.specs.Vector as v
 use Rattle.vector.specs.Matrix.{identity, transpose, sub_mat, mul_vec, mul_mat, determinant}
@@ -11,12 +11,13 @@ use Rattle.vector.specs.declared.Vec3.{Vec3}
 use Rattle.vector.specs.declared.Mat3.{Mat3}
 use Rattle.vector.specs.declared.Quat.{Quat}
 use Rattle.vector.specs.declared.Four.{Four}
-use Rattle.strain.specs.Six.{any_above6}
+use Rattle.strain.specs.Six.{scale6, any_above6}
 use Rattle.shape.specs.Rotation.{extract_rotation}
 use Rattle.shape.specs.Cell.{cell_edge_matrix}
 use Rattle.places.specs.Places.{Holds, Masses, refreshed}
 use Rattle.cell.specs.Strain.{strain_rows_of, strain_tensor, outer_sum}
 use Rattle.cell.specs.declared.Cell.{Cell}
+use Rattle.cell.specs.declared.Impulses.{Impulses}
 use Rattle.cell.specs.declared.Pose.{Pose}
 
 -- ---- update
@@ -64,8 +65,9 @@ is_strained e least = any_above6 e least
 -- ---- solve
 
 -- a place that is skipped counts as at rest, whatever the rotation
-abbrev pub local_of : Mat3 → Held → Vec3
-local_of invRot h = cond h.named (mul_vec invRot h.value) v.zero_vector
+abbrev pub local_of : Mat3 → Option Vec3 → Vec3
+local_of invRot (Some x) = mul_vec invRot x
+local_of invRot None = v.zero_vector
 
 -- the velocities in the cell's frame
 unfoldable pub local_velocities : Mat3 → Holds → Four Vec3
@@ -103,3 +105,8 @@ volume_losses rot coeffs im l grad x =
       c = volume_loss rot t coeffs.c grad.c x im.c;
       d = volume_loss rot t coeffs.d grad.d x im.d;
     }
+
+-- ---- warm start: both impulses times the coefficient
+
+abbrev pub scaled : Impulses → Float → Impulses
+scaled l k = record { strain = scale6 l.strain k; vol = l.vol ⊗ k }

@@ -21,18 +21,20 @@ block_column k gk l gl =
     ∷ quarter k.y l.y k.z l.z gk.y gl.y gk.z gl.z
     ∷ []
 
-unfoldable pub from_columns : List Float → List Float → List Float → List Float → List Float → List Float → List Float
-from_columns c0 c1 c2 c3 c4 c5 = from_fn (λ i j. at (get_or (c0 ∷ c1 ∷ c2 ∷ c3 ∷ c4 ∷ c5 ∷ []) j []) i)
+-- the matrix with these six columns
+unfoldable pub from_columns : List (List Float) → List Float
+from_columns c = from_fn (λ i j. at (get_or c j []) i)
 
 pub by_columns :
     (g : Mat3)
     → from_columns
-    (block_column identity.x g.x identity.x g.x)
-    (block_column identity.y g.y identity.y g.y)
-    (block_column identity.z g.z identity.z g.z)
-    (block_column identity.x g.x identity.y g.y)
-    (block_column identity.x g.x identity.z g.z)
-    (block_column identity.y g.y identity.z g.z)
+    (block_column identity.x g.x identity.x g.x
+    ∷ block_column identity.y g.y identity.y g.y
+    ∷ block_column identity.z g.z identity.z g.z
+    ∷ block_column identity.x g.x identity.y g.y
+    ∷ block_column identity.x g.x identity.z g.z
+    ∷ block_column identity.y g.y identity.z g.z
+    ∷ [])
     ≡ strain_block_from_g g
 unfolding from_columns block_column quarter identity strain_block_from_g
 by_columns g = refl

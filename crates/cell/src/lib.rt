@@ -6,15 +6,18 @@ pub mod solve; // velocities in the cell's frame, and what impulses take
 pub mod tensor; // strains in six coordinates and as tensors
 pub mod update; // the update of positions, rotation and strain
 
+ghost use Rattle.std.specs.Prelude.{◌≡◌};
+ghost use Rattle.cell.specs.Cell as spec;
+
 use places::Masses;
-use vector::{Four, Mat3, Quat};
+use vector::{Four, Mat3, Quat, Vec3};
 
 // What no step alters. `strain_cap` bounds each strain while the cell is inverted.
 #[repr(C)]
 #[derive(Clone, Copy)]
 pub struct Cell {
     pub im: Masses,
-    pub coeffs: Four,
+    pub coeffs: Four<Vec3>,
     pub inv_rest_matrix: Mat3,
     pub strain_cap: [f32; 6],
 }
@@ -23,7 +26,7 @@ pub struct Cell {
 #[repr(C)]
 #[derive(Clone, Copy)]
 pub struct Pose {
-    pub pos: Four,
+    pub pos: Four<Vec3>,
     pub rotation: Quat,
     pub rot_mat: Mat3,
     pub strain: [f32; 6],
@@ -45,10 +48,24 @@ pub struct Impulses {
     pub vol: f32,
 }
 
-// The row's impulses anew, and what each place is to lose.
+impl Impulses {
+    // As a warm start takes them over from the substep before.
+    pub fn scaled(self, coeff: f32) -> Impulses
+        ensures { result ≡ spec.scaled self coeff }
+    {
+        Impulses {
+            strain: strain::scale(&self.strain, coeff),
+            vol: self.vol * coeff,
+        }
+    }
+}
+
+// The strain rows of a cell under a rotation: its coefficients say how the velocities of its places strain it, and what each place is to lose for an impulse
+// goes by them and by its inverse mass.
 #[repr(C)]
 #[derive(Clone, Copy)]
-pub struct Solved {
-    pub impulses: Impulses,
-    pub loss: Four,
+pub struct StrainRows {
+    pub rot: Mat3,
+    pub coeffs: Four<Vec3>,
+    pub im: Masses,
 }

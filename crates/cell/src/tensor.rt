@@ -6,6 +6,7 @@ ghost use Rattle.cell.specs.Strain as spec;
 use places::Masses;
 use vector::{Four, Mat3, Vec3};
 
+#[tactic(auto, unfolding(crate::specs::Strain::strain_rows_of))]
 pub fn strain_rows_of(m: Mat3) -> [f32; 6]
     ensures { result ≡ spec.strain_rows_of m }
 {
@@ -19,6 +20,7 @@ pub fn strain_rows_of(m: Mat3) -> [f32; 6]
     ]
 }
 
+#[tactic(auto, unfolding(crate::specs::Strain::strain_rows_dual))]
 pub fn strain_rows_dual(m: Mat3) -> [f32; 6]
     ensures { result ≡ spec.strain_rows_dual m }
 {
@@ -32,6 +34,7 @@ pub fn strain_rows_dual(m: Mat3) -> [f32; 6]
     ]
 }
 
+#[tactic(auto, unfolding(crate::specs::Strain::strain_tensor))]
 pub fn strain_tensor(l: &[f32; 6]) -> Mat3
     ensures { result ≡ spec.strain_tensor l.now }
 {
@@ -57,6 +60,7 @@ pub fn strain_tensor(l: &[f32; 6]) -> Mat3
     }
 }
 
+#[tactic(auto, unfolding(crate::specs::Strain::strain_matrix))]
 pub fn strain_matrix(e: &[f32; 6]) -> Mat3
     ensures { result ≡ spec.strain_matrix e.now }
 {
@@ -79,40 +83,35 @@ pub fn strain_matrix(e: &[f32; 6]) -> Mat3
     }
 }
 
-// A column of `outer_sum`: the vectors of a times the numbers of b's.
-fn outer_column(a: Four, k0: f32, k1: f32, k2: f32, k3: f32) -> Vec3
-    ensures { result ≡ spec.outer_column a k0 k1 k2 k3 }
+// A column of `outer_sum`: the vectors of a times the numbers k.
+fn outer_column(a: Four<Vec3>, k: Four<f32>) -> Vec3
+    ensures { result ≡ spec.outer_column a k.a k.b k.c k.d }
 {
-    let s0 = vector::add(vector::zero_vector(), vector::scale(a.a, k0));
-    let s1 = vector::add(s0, vector::scale(a.b, k1));
-    let s2 = vector::add(s1, vector::scale(a.c, k2));
-    vector::add(s2, vector::scale(a.d, k3))
+    Vec3::zero() + a.a * k.a + a.b * k.b + a.c * k.c + a.d * k.d
 }
 
-pub fn outer_sum(a: Four, b: Four) -> Mat3
+#[tactic(auto, unfolding(crate::specs::Strain::outer_sum))]
+pub fn outer_sum(a: Four<Vec3>, b: Four<Vec3>) -> Mat3
     ensures { result ≡ spec.outer_sum a b }
 {
     Mat3 {
-        x: outer_column(a, b.a.x, b.b.x, b.c.x, b.d.x),
-        y: outer_column(a, b.a.y, b.b.y, b.c.y, b.d.y),
-        z: outer_column(a, b.a.z, b.b.z, b.c.z, b.d.z),
+        x: outer_column(a, b.map(|v| v.x)),
+        y: outer_column(a, b.map(|v| v.y)),
+        z: outer_column(a, b.map(|v| v.z)),
     }
 }
 
-pub fn weighted(c: Four, im: Masses) -> Four
+#[tactic(auto, unfolding(crate::specs::Strain::weighted))]
+pub fn weighted(c: Four<Vec3>, im: Masses) -> Four<Vec3>
     ensures { result ≡ spec.weighted c im }
 {
-    Four {
-        a: vector::scale(c.a, im.a),
-        b: vector::scale(c.b, im.b),
-        c: vector::scale(c.c, im.c),
-        d: vector::scale(c.d, im.d),
-    }
+    c.zip(im, |c, w| c * w)
 }
 
 // ---- the effective-mass block
 
 // One entry. A delta of 0 multiplies too: 0 times an infinity is a NaN, and a sum that starts at -0 becomes +0.
+#[tactic(auto, unfolding(crate::specs::Columns::quarter))]
 fn quarter(ik: f32, il: f32, jk: f32, jl: f32, gik: f32, gil: f32, gjk: f32, gjl: f32) -> f32
     ensures { result ≡ columns.quarter ik il jk jl gik gil gjk gjl }
 {
@@ -120,6 +119,7 @@ fn quarter(ik: f32, il: f32, jk: f32, jl: f32, gik: f32, gil: f32, gjk: f32, gjl
 }
 
 // A column (k, l): k and l are unit vectors, gk and gl columns k and l of G.
+#[tactic(auto, unfolding(crate::specs::Columns::block_column))]
 fn block_column(k: Vec3, gk: Vec3, l: Vec3, gl: Vec3) -> [f32; 6]
     ensures { result ≡ columns.block_column k gk l gl }
 {
@@ -134,35 +134,31 @@ fn block_column(k: Vec3, gk: Vec3, l: Vec3, gl: Vec3) -> [f32; 6]
 }
 
 // A 6x6 matrix of its columns.
-pub fn from_columns(
-    c0: &[f32; 6],
-    c1: &[f32; 6],
-    c2: &[f32; 6],
-    c3: &[f32; 6],
-    c4: &[f32; 6],
-    c5: &[f32; 6],
-) -> [f32; 36]
-    ensures { result ≡ columns.from_columns c0.now c1.now c2.now c3.now c4.now c5.now }
+#[tactic(auto, unfolding(crate::specs::Columns::from_columns))]
+pub fn from_columns(c: &[[f32; 6]; 6]) -> [f32; 36]
+    ensures { result ≡ columns.from_columns c.now }
 {
     let mut r = [0.0f32; 36];
-    strain::set_column(&mut r, 0, c0);
-    strain::set_column(&mut r, 1, c1);
-    strain::set_column(&mut r, 2, c2);
-    strain::set_column(&mut r, 3, c3);
-    strain::set_column(&mut r, 4, c4);
-    strain::set_column(&mut r, 5, c5);
+    strain::set_column(&mut r, 0, &c[0]);
+    strain::set_column(&mut r, 1, &c[1]);
+    strain::set_column(&mut r, 2, &c[2]);
+    strain::set_column(&mut r, 3, &c[3]);
+    strain::set_column(&mut r, 4, &c[4]);
+    strain::set_column(&mut r, 5, &c[5]);
     r
 }
 
+#[tactic(auto, using(crate::specs::Columns::by_columns))]
 pub fn strain_block_from_g(g: Mat3) -> [f32; 36]
     ensures { result ≡ spec.strain_block_from_g g }
 {
-    let e = vector::matrix::identity();
-    let c0 = block_column(e.x, g.x, e.x, g.x);
-    let c1 = block_column(e.y, g.y, e.y, g.y);
-    let c2 = block_column(e.z, g.z, e.z, g.z);
-    let c3 = block_column(e.x, g.x, e.y, g.y);
-    let c4 = block_column(e.x, g.x, e.z, g.z);
-    let c5 = block_column(e.y, g.y, e.z, g.z);
-    from_columns(&c0, &c1, &c2, &c3, &c4, &c5)
+    let e = Mat3::identity();
+    from_columns(&[
+        block_column(e.x, g.x, e.x, g.x),
+        block_column(e.y, g.y, e.y, g.y),
+        block_column(e.z, g.z, e.z, g.z),
+        block_column(e.x, g.x, e.y, g.y),
+        block_column(e.x, g.x, e.z, g.z),
+        block_column(e.y, g.y, e.z, g.z),
+    ])
 }

@@ -1,35 +1,34 @@
 -- What the parts of the code's sweep do, and that together they are a sweep. The matrix and its vectors are turned one after the other, each with the
 -- rotation that was found before. Assumes nothing.
-use Rattle.std.specs.Prelude.{ℕ, ◌≡◌, Bool, true, false, cond, Float}
-use Rattle.std.proofs.Math.Path.{refl}
+use Rattle.std.specs.Prelude.{ℕ, ◌≡◌, refl, Bool, true, false, cond, Option, Some, None, Float}
 use Rattle.std.proofs.Common.{ap, ◌∙◌}
 use Rattle.std.specs.Float.Ieee.{eq}
-use Rattle.real.specs.Float.{◌⊖◌, f0, f1}
+use Rattle.real.specs.Float.{◌⊖◌, f0}
 use Rattle.linalg.specs.declared.jacobi.Rotation.{Rotation}
 use Rattle.linalg.specs.Eigen.{Rows, entry, tangent, cosine, sine, rotate_columns, rotate_rows, rotate, turn, sweep}
 
 -- the roots are not taken where there is nothing to zero
-unfoldable pub rotation_for : Float → Float → Rotation
-rotation_for apq d =
-    cond (eq apq f0) (record { none = true; c = f1; s = f0 })
-    (record { none = false; c = cosine (tangent apq d); s = sine (tangent apq d) })
+unfoldable pub rotation_for : Float → Float → Option Rotation
+rotation_for apq d = cond (eq apq f0) None (Some (record { c = cosine (tangent apq d); s = sine (tangent apq d) }))
 
-abbrev pub rotation_at : Rows → ℕ → ℕ → Rotation
+abbrev pub rotation_at : Rows → ℕ → ℕ → Option Rotation
 rotation_at a p q = rotation_for (entry a p q) (entry a q q ⊖ entry a p p)
 
-unfoldable pub turn_matrix : ℕ → ℕ → Rotation → Rows → Rows
-turn_matrix p q g a = cond g.none a (rotate_rows p q g.c g.s (rotate_columns p q g.c g.s a))
+unfoldable pub turn_matrix : ℕ → ℕ → Option Rotation → Rows → Rows
+turn_matrix p q None a = a
+turn_matrix p q (Some g) a = rotate_rows p q g.c g.s (rotate_columns p q g.c g.s a)
 
-unfoldable pub turn_vectors : ℕ → ℕ → Rotation → Rows → Rows
-turn_vectors p q g v = cond g.none v (rotate_columns p q g.c g.s v)
+unfoldable pub turn_vectors : ℕ → ℕ → Option Rotation → Rows → Rows
+turn_vectors p q None v = v
+turn_vectors p q (Some g) v = rotate_columns p q g.c g.s v
 
--- ---- what each function that turns the matrix shows, whatever its p and q
-module _ (p q : ℕ) (g : Rotation) (a : Rows) where
-  pub kept : g.none ≡ true → a ≡ turn_matrix p q g a
+-- ---- what the function that turns the matrix shows, whatever its p and q
+module _ (p q : ℕ) (a : Rows) where
+  pub kept : {g : Option Rotation} → g ≡ None → a ≡ turn_matrix p q g a
   unfolding turn_matrix
   kept e = rw e refl
 
-  pub turned : {b r : Rows} → g.none ≡ false → b ≡ rotate_columns p q g.c g.s a → r ≡ rotate_rows p q g.c g.s b
+  pub turned : {g : Option Rotation} {z : Rotation} {b r : Rows} → g ≡ Some z → b ≡ rotate_columns p q z.c z.s a → r ≡ rotate_rows p q z.c z.s b
       → r ≡ turn_matrix p q g a
   unfolding turn_matrix
   turned e eb er = rw (e, ← eb) er
@@ -37,7 +36,7 @@ module _ (p q : ℕ) (g : Rotation) (a : Rows) where
 -- ---- a sweep
 
 -- the pair p, q: with no rotation both stay
-pub turn_both : (p q : ℕ) (a v : Rows) {g : Rotation} {b w : Rows} → g ≡ rotation_at a p q → b ≡ turn_matrix p q g a → w ≡ turn_vectors p q g v
+pub turn_both : (p q : ℕ) (a v : Rows) {g : Option Rotation} {b w : Rows} → g ≡ rotation_at a p q → b ≡ turn_matrix p q g a → w ≡ turn_vectors p q g v
     → record { a = b; v = w } ≡ turn p q (record { a = a; v = v })
 unfolding turn turn_matrix turn_vectors rotation_for
 turn_both p q a v eg eb ew = rw (ew, eb, eg) (by_case (eq (entry a p q) f0))
@@ -45,15 +44,15 @@ turn_both p q a v eg eb ew = rw (ew, eb, eg) (by_case (eq (entry a p q) f0))
     t : Float
     t = tangent (entry a p q) (entry a q q ⊖ entry a p p)
 
-    found : Bool → Rotation
-    found z = cond z (record { none = true; c = f1; s = f0 }) (record { none = false; c = cosine t; s = sine t })
+    found : Bool → Option Rotation
+    found z = cond z None (Some (record { c = cosine t; s = sine t }))
 
     by_case : (z : Bool) → record { a = turn_matrix p q (found z) a; v = turn_vectors p q (found z) v }
         ≡ cond z (record { a = a; v = v }) (rotate p q (cosine t) (sine t) (record { a = a; v = v }))
     by_case true = refl
     by_case false = refl
 
-pub swept : (a v : Rows) {a1 a2 a3 v1 v2 v3 : Rows} {g1 g2 g3 : Rotation}
+pub swept : (a v : Rows) {a1 a2 a3 v1 v2 v3 : Rows} {g1 g2 g3 : Option Rotation}
     → g1 ≡ rotation_at a 0 1 → a1 ≡ turn_matrix 0 1 g1 a
     → g2 ≡ rotation_at a1 0 2 → a2 ≡ turn_matrix 0 2 g2 a1
     → g3 ≡ rotation_at a2 1 2 → a3 ≡ turn_matrix 1 2 g3 a2

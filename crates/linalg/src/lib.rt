@@ -61,15 +61,15 @@ pub fn symmetric_eigen(m: Mat3) -> Eigen
         if jacobi::is_settled(a) {
             break;
         }
-        let g1 = jacobi::rotation_at(a, 0, 1);
-        let a1 = jacobi::turn_01(a, g1);
-        let g2 = jacobi::rotation_at(a1, 0, 2);
-        let a2 = jacobi::turn_02(a1, g2);
-        let g3 = jacobi::rotation_at(a2, 1, 2);
-        let a3 = jacobi::turn_12(a2, g3);
-        let v1 = jacobi::turn_vectors(v, 0, 1, g1);
-        let v2 = jacobi::turn_vectors(v1, 0, 2, g2);
-        let v3 = jacobi::turn_vectors(v2, 1, 2, g3);
+        let first = jacobi::rotation_at::<0, 1>(a);
+        let a1 = jacobi::turn_matrix::<0, 1>(a, first);
+        let second = jacobi::rotation_at::<0, 2>(a1);
+        let a2 = jacobi::turn_matrix::<0, 2>(a1, second);
+        let third = jacobi::rotation_at::<1, 2>(a2);
+        let a3 = jacobi::turn_matrix::<1, 2>(a2, third);
+        let v1 = jacobi::turn_vectors::<0, 1>(v, first);
+        let v2 = jacobi::turn_vectors::<0, 2>(v1, second);
+        let v3 = jacobi::turn_vectors::<1, 2>(v2, third);
         a = a3;
         v = v3;
     }
@@ -77,6 +77,7 @@ pub fn symmetric_eigen(m: Mat3) -> Eigen
 }
 
 // The outer product `a bᵀ`.
+#[tactic(auto, unfolding(crate::specs::Products::outer_product))]
 pub fn outer_product(a: Vec3, b: Vec3) -> Mat3
     ensures { result ≡ products.outer_product a b }
 {
@@ -88,6 +89,7 @@ pub fn outer_product(a: Vec3, b: Vec3) -> Mat3
 }
 
 // The cofactor matrix `∂det(F)/∂F`.
+#[tactic(auto, unfolding(crate::specs::Products::cofactor))]
 pub fn cofactor(f: Mat3) -> Mat3
     ensures { result ≡ products.cofactor f }
 {

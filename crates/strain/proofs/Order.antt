@@ -1,7 +1,7 @@
 -- A sum of six products runs from the first to the last: another order gives another number. Assumes nothing.
-use mathlib.Core.Path.{◌≡◌, refl}
-use mathlib.Core.List.{List, [], ◌∷◌}
-use lib.Ieee.{Float, binary32, of_bits, add, mul}
+use Rattle.std.specs.Prelude.{◌≡◌, refl, List, [], ◌∷◌, Float}
+use Rattle.std.specs.Float.{binary32}
+use Rattle.std.specs.Float.Ieee.{of_bits, add, mul}
 use Rattle.real.specs.Float.{f0, f1}
 use Rattle.strain.specs.Six.{dot6}
 

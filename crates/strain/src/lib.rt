@@ -2,57 +2,64 @@
 #![tactic(auto)]
 
 ghost use Rattle.std.specs.Prelude.{◌≡◌, ◌<◌, length};
+ghost use Rattle.real.specs.Float.{◌⊕◌, ◌⊖◌, ◌⊗◌, at};
 ghost use Rattle.strain.specs.Columns as columns;
 ghost use Rattle.strain.specs.Matrix as matrix;
 ghost use Rattle.strain.specs.Parts as parts;
 ghost use Rattle.strain.specs.Six as six;
 
 use real::abs;
+use std::array::from_fn;
 
 // ---- lists of N floats, part by part: N is 6 for a strain, 36 for a matrix
 
 pub fn add<const N: usize>(a: &[f32; N], b: &[f32; N]) -> [f32; N]
     ensures { result ≡ parts.add N a.now b.now }
 {
-    let mut r = [0.0f32; N];
-    for k in 0..N {
-        r[k] = a[k] + b[k];
-    }
-    r
+    from_fn(
+        |k: usize| -> f32
+            requires { k < N }
+            ensures { result ≡ at a.entry.now k ⊕ at b.entry.now k }
+        { a[k] + b[k] },
+    )
 }
 
 pub fn sub<const N: usize>(a: &[f32; N], b: &[f32; N]) -> [f32; N]
     ensures { result ≡ parts.sub N a.now b.now }
 {
-    let mut r = [0.0f32; N];
-    for k in 0..N {
-        r[k] = a[k] - b[k];
-    }
-    r
+    from_fn(
+        |k: usize| -> f32
+            requires { k < N }
+            ensures { result ≡ at a.entry.now k ⊖ at b.entry.now k }
+        { a[k] - b[k] },
+    )
 }
 
 pub fn component_mul<const N: usize>(a: &[f32; N], b: &[f32; N]) -> [f32; N]
     ensures { result ≡ parts.component_mul N a.now b.now }
 {
-    let mut r = [0.0f32; N];
-    for k in 0..N {
-        r[k] = a[k] * b[k];
-    }
-    r
+    from_fn(
+        |k: usize| -> f32
+            requires { k < N }
+            ensures { result ≡ at a.entry.now k ⊗ at b.entry.now k }
+        { a[k] * b[k] },
+    )
 }
 
 pub fn scale<const N: usize>(a: &[f32; N], s: f32) -> [f32; N]
     ensures { result ≡ parts.scale N a.now s }
 {
-    let mut r = [0.0f32; N];
-    for k in 0..N {
-        r[k] = a[k] * s;
-    }
-    r
+    from_fn(
+        |k: usize| -> f32
+            requires { k < N }
+            ensures { result ≡ at a.entry.now k ⊗ s }
+        { a[k] * s },
+    )
 }
 
 // ---- six-vectors
 
+#[tactic(auto, unfolding(crate::specs::Six::dot6))]
 pub fn dot6(a: &[f32; 6], b: &[f32; 6]) -> f32
     ensures { result ≡ six.dot6 a.now b.now }
 {
@@ -60,32 +67,25 @@ pub fn dot6(a: &[f32; 6], b: &[f32; 6]) -> f32
 }
 
 // Whether no part's magnitude is above the limit; a NaN is above it.
+#[tactic(auto, unfolding(crate::specs::Six::all_within6))]
 pub fn all_within6(a: &[f32; 6], limit: f32) -> bool
     ensures { result ≡ six.all_within6 a.now limit }
 {
-    (abs(a[0]) <= limit)
-        & (abs(a[1]) <= limit)
-        & (abs(a[2]) <= limit)
-        & (abs(a[3]) <= limit)
-        & (abs(a[4]) <= limit)
-        & (abs(a[5]) <= limit)
+    a.iter().all(|x| abs(*x) <= limit)
 }
 
 // Whether some part's magnitude is above the limit; a NaN is not.
+#[tactic(auto, unfolding(crate::specs::Six::any_above6))]
 pub fn any_above6(a: &[f32; 6], limit: f32) -> bool
     ensures { result ≡ six.any_above6 a.now limit }
 {
-    (abs(a[0]) > limit)
-        | (abs(a[1]) > limit)
-        | (abs(a[2]) > limit)
-        | (abs(a[3]) > limit)
-        | (abs(a[4]) > limit)
-        | (abs(a[5]) > limit)
+    a.iter().any(|x| abs(*x) > limit)
 }
 
 // ---- products
 
-// Row i of m times v.
+// Row i of m times v. The row is written out: a loop that gathers it makes `mat_vec` slower by half.
+#[tactic(auto, unfolding(crate::specs::Matrix::row))]
 fn row_dot(m: &[f32; 36], i: usize, v: &[f32; 6]) -> f32
     requires { i < 6 }
     ensures { result ≡ six.dot6 (matrix.row m.now i) v.now }
@@ -94,54 +94,29 @@ fn row_dot(m: &[f32; 36], i: usize, v: &[f32; 6]) -> f32
     dot6(&r, v)
 }
 
+#[tactic(auto, unfolding(crate::specs::Matrix::mat_vec))]
+#[inline]
 pub fn mat_vec(m: &[f32; 36], v: &[f32; 6]) -> [f32; 6]
     ensures { result ≡ matrix.mat_vec m.now v.now }
 {
-    [
-        row_dot(m, 0, v),
-        row_dot(m, 1, v),
-        row_dot(m, 2, v),
-        row_dot(m, 3, v),
-        row_dot(m, 4, v),
-        row_dot(m, 5, v),
-    ]
+    from_fn(|i| row_dot(m, i, v))
 }
 
+#[tactic(auto, unfolding(crate::specs::Matrix::column))]
 fn column(m: &[f32; 36], j: usize) -> [f32; 6]
     requires { j < 6 }
     ensures { result ≡ matrix.column m.now j }
 {
-    let k = j * 6;
-    [m[k], m[k + 1], m[k + 2], m[k + 3], m[k + 4], m[k + 5]]
+    from_fn(|i| m[j * 6 + i])
 }
 
 pub fn set_column(m: &mut [f32; 36], j: usize, c: &[f32; 6])
     requires { j < 6 }
     ensures { m.new ≡ columns.set_column m.old j c.now }
 {
-    let k = j * 6;
-    m[k] = c[0];
-    m[k + 1] = c[1];
-    m[k + 2] = c[2];
-    m[k + 3] = c[3];
-    m[k + 4] = c[4];
-    m[k + 5] = c[5];
-}
-
-// Column j of the product: a matrix times a column. It has one caller, and so is inlined into its loop.
-fn product_column(a: &[f32; 36], b: &[f32; 36], j: usize) -> [f32; 6]
-    requires { j < 6 }
-    ensures { result ≡ matrix.mat_vec a.now (matrix.column b.now j) }
-{
-    let v = column(b, j);
-    [
-        row_dot(a, 0, &v),
-        row_dot(a, 1, &v),
-        row_dot(a, 2, &v),
-        row_dot(a, 3, &v),
-        row_dot(a, 4, &v),
-        row_dot(a, 5, &v),
-    ]
+    for i in 0usize..6 {
+        m[j * 6 + i] = c[i];
+    }
 }
 
 pub fn mat_mul(a: &[f32; 36], b: &[f32; 36]) -> [f32; 36]
@@ -149,32 +124,17 @@ pub fn mat_mul(a: &[f32; 36], b: &[f32; 36]) -> [f32; 36]
 {
     let mut r = [0.0f32; 36];
     for j in 0usize..6 {
-        let c = product_column(a, b, j);
-        set_column(&mut r, j, &c);
+        set_column(&mut r, j, &mat_vec(a, &column(b, j)));
     }
     r
 }
 
-// Entry (i, j) of what `ger` makes.
-fn ger_at(factor: f32, w: &[f32; 6], m: &[f32; 36], i: usize, j: usize) -> f32
-    requires { (i < 6) × (j < 6) }
-    ensures { result ≡ matrix.ger_at factor w.now m.now i j }
-{
-    factor * w[j] * w[i] + m[j * 6 + i]
-}
-
+// Column j of what `ger` makes.
 fn ger_column(factor: f32, w: &[f32; 6], m: &[f32; 36], j: usize) -> [f32; 6]
     requires { j < 6 }
     ensures { result ≡ columns.column_of (matrix.ger_at factor w.now m.now) j }
 {
-    [
-        ger_at(factor, w, m, 0, j),
-        ger_at(factor, w, m, 1, j),
-        ger_at(factor, w, m, 2, j),
-        ger_at(factor, w, m, 3, j),
-        ger_at(factor, w, m, 4, j),
-        ger_at(factor, w, m, 5, j),
-    ]
+    from_fn(|i| factor * w[j] * w[i] + m[j * 6 + i])
 }
 
 pub fn ger(factor: f32, w: &[f32; 6], m: &[f32; 36]) -> [f32; 36]
@@ -182,8 +142,7 @@ pub fn ger(factor: f32, w: &[f32; 6], m: &[f32; 36]) -> [f32; 36]
 {
     let mut r = [0.0f32; 36];
     for j in 0usize..6 {
-        let c = ger_column(factor, w, m, j);
-        set_column(&mut r, j, &c);
+        set_column(&mut r, j, &ger_column(factor, w, m, j));
     }
     r
 }
@@ -194,15 +153,13 @@ pub fn from_diagonal(d: &[f32; 6]) -> [f32; 36]
     ensures { result ≡ matrix.from_diagonal d.now }
 {
     let mut r = [0.0f32; 36];
-    r[0] = d[0];
-    r[7] = d[1];
-    r[14] = d[2];
-    r[21] = d[3];
-    r[28] = d[4];
-    r[35] = d[5];
+    for i in 0usize..6 {
+        r[7 * i] = d[i];
+    }
     r
 }
 
+#[tactic(auto, unfolding(crate::specs::Matrix::from_diagonal, crate::specs::Matrix::identity6))]
 pub fn identity6() -> [f32; 36]
     ensures { result ≡ matrix.identity6 }
 {

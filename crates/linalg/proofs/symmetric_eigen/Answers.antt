@@ -1,7 +1,6 @@
 -- `linalg::symmetric_eigen` meets its contract: what is to come of the state before each turn is what was to come of it at first, and a turn is a sweep.
 -- Assumes nothing.
-use mathlib.Core.Path.{◌∙◌, ap}
-use borrow.Author.Rules.{rules}
+use Rattle.std.proofs.Common.{rules, ap, ◌∙◌}
 use Rattle.loops.specs.Loops.{coming_none, coming_more, coming_stop, coming_end}
 use Rattle.linalg.specs.Eigen.{sweeps, eigen_of, symmetric_eigen}
 use Rattle.linalg.specs.Steps.{swept}
@@ -16,12 +15,12 @@ loop-preserved c =
     let loop = c.loop in
     coming_more loop.invariant (search rules) (cc)
     (swept loop.a loop.v
-    c.rotation_at-g1.ensures
-    c.turn_01-a1.ensures
-    c.rotation_at-g2.ensures
-    c.turn_02-a2.ensures
-    c.rotation_at-g3.ensures
-    c.turn_12-a3.ensures
+    c.rotation_at-first.ensures
+    c.turn_matrix-a1.ensures
+    c.rotation_at-second.ensures
+    c.turn_matrix-a2.ensures
+    c.rotation_at-third.ensures
+    c.turn_matrix-a3.ensures
     c.turn_vectors-v1.ensures
     c.turn_vectors-v2.ensures
     c.turn_vectors-v3.ensures)

@@ -1,4 +1,4 @@
-use Prim.Native.Nat.{◌-◌}
+use Rattle.std.specs.Prelude.{◌-◌}
 use Rattle.loops.specs.Loops.{Coming}
 use Rattle.linalg.specs.Eigen.{State, settled, sweep}
 use Rattle.linalg.proofs.symmetric_eigen.Given as goal

@@ -1,16 +1,10 @@
--- `strain::component_mul` meets its contract. One store a turn. Assumes nothing.
-use Rattle.std.proofs.Common.{rules, refl}
-use Rattle.std.proofs.lemmas.List.{length-replicate}
-use Rattle.loops.specs.Fill.{filled_none, filled_more, filled_all}
+-- `strain::component_mul` meets its contract: each part is what the closure gives. Assumes nothing.
+use Rattle.std.proofs.Common.{rules}
+use Rattle.loops.specs.Fill.{tabulated}
+use Rattle.real.specs.Float.{◌⊗◌, at}
 use Rattle.strain.specs.Parts.{component_mul}
 use Rattle.strain.proofs.component_mul.Goals as goal
 
-pub loop-k-init : goal.loop-k-init
-loop-k-init g c = filled_none (length-replicate g.row.N _)
-
-pub loop-k-preserved : goal.loop-k-preserved
-loop-k-preserved g c = filled_more c.loop-k.invariant (search rules) refl
-
 pub returns : goal.returns
 unfolding component_mul
-returns g c = filled_all c.loop-k.invariant (search rules)
+returns g c = tabulated _ (λ k. at c.args.a.now k ⊗ at c.args.b.now k) (λ k y q called. search rules) c.from_fn.ensures.items

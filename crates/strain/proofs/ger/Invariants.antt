@@ -1,4 +1,4 @@
-use Prim.Native.Nat.{◌-◌}
+use Rattle.std.specs.Prelude.{◌-◌}
 use Rattle.strain.specs.Columns.{Columns}
 use Rattle.strain.specs.Matrix.{ger_at}
 use Rattle.strain.proofs.ger.Given as goal

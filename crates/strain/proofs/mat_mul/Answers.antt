@@ -1,5 +1,5 @@
 -- `strain::mat_mul` meets its contract. A column a turn. Assumes nothing.
-use borrow.Author.Rules.{rules}
+use Rattle.std.proofs.Common.{rules}
 use Rattle.strain.specs.Columns.{columns_none, columns_more, columns_all}
 use Rattle.strain.specs.Matrix.{mat_vec, mat_mul}
 use Rattle.strain.proofs.mat_mul.Goals as goal
@@ -9,7 +9,7 @@ loop-j-init c = columns_none (search rules)
 
 pub loop-j-preserved : goal.loop-j-preserved
 unfolding mat_vec
-loop-j-preserved c = columns_more c.loop-j.invariant (search rules) c.set_column.ensures c.product_column-c.ensures
+loop-j-preserved c = columns_more c.loop-j.invariant (search rules) c.set_column.ensures (rw c.column.ensures at c.mat_vec.ensures)
 
 pub returns : goal.returns
 unfolding mat_mul

@@ -1,8 +1,0 @@
--- `cell::tensor::strain_rows_dual` meets its contract. The array is the definition written out. Assumes nothing.
-use mathlib.Core.Path.{refl}
-use Rattle.cell.specs.Strain.{strain_rows_dual}
-use Rattle.cell.proofs.tensor.strain_rows_dual.Goals as goal
-
-pub returns : goal.returns
-unfolding strain_rows_dual
-returns c = refl

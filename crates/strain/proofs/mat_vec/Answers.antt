@@ -1,7 +1,0 @@
--- `strain::mat_vec` meets its contract. Each part is a call's. Assumes nothing.
-use Rattle.strain.specs.Matrix.{mat_vec}
-use Rattle.strain.proofs.mat_vec.Goals as goal
-
-pub returns : goal.returns
-unfolding mat_vec
-returns c = cc
