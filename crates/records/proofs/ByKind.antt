@@ -1,11 +1,10 @@
 -- Which tests a record's kind gives it, and how long a record that is due is. Assumes nothing.
-use Prim.Native.Nat.{ℕ, ◌+◌, ◌<◌}
-use mathlib.Core.Path.{◌≡◌, refl}
+use Prim.Native.Nat.{ℕ}
+use mathlib.Core.Path.{◌≡◌, refl, sym}
 use mathlib.Core.Bool.{Bool, true, false, ◌&&◌, ◌||◌}
 use mathlib.Core.Logic.{◌⊎◌, inl, inr}
 use mathlib.Core.List.{List}
 use native.Mathlib.Omega.{arith}
-use lib.ListN.{length}
 use lib.Dec.{eqb}
 use borrow.Author.Tests.{eq-eqb, ne_eqb, eqb-true}
 use Rattle.little_endian.specs.Bytes.{le16}
@@ -13,7 +12,12 @@ use Rattle.records.specs.declared.Due.{Due}
 use Rattle.records.specs.declared.Due.TheVariants.{Head, Point, Row}
 use Rattle.records.specs.Fields.{head_fields, point_fields, scalar_fields, corotational_fields, neo_hookean_fields, fields}
 use Rattle.records.specs.Records.{is_pair, is_due}
-use Rattle.records.specs.Sized.{Sized}
+use Rattle.records.specs.declared.kinds.Kind as code
+use Rattle.records.specs.declared.kinds.Kind.TheVariants as kinds
+use Rattle.records.specs.declared.kinds.RowKind.TheVariants.{Scalar, Corotational, NeoHookean}
+use Rattle.records.specs.Kinds.{number_of_kind, length_of, due_as}
+use Rattle.records.specs.contracts.Due.{the_type}
+use denote.Enum.Bare.{sameb}
 
 module _ (b : List ℕ) (c : ℕ) where
   pub fields_1 : le16 b 4 ≡ 1 → fields b c ≡ head_fields b
@@ -35,6 +39,12 @@ module _ (b : List ℕ) (c : ℕ) where
   pub fields_else : (le16 b 4 ≡ 1 → ⊥) → (le16 b 4 ≡ 2 → ⊥) → (le16 b 4 ≡ 3 → ⊥) → (le16 b 4 ≡ 4 → ⊥) → fields b c ≡ neo_hookean_fields b c
   unfolding fields
   fields_else p q r t = simp (ne_eqb (le16 b 4) 1 p, ne_eqb (le16 b 4) 2 q, ne_eqb (le16 b 4) 3 r, ne_eqb (le16 b 4) 4 t)
+
+  pub fields_5 : le16 b 4 ≡ 5 → fields b c ≡ neo_hookean_fields b c
+  fields_5 e = fields_else (λ z. omega arith) (λ z. omega arith) (λ z. omega arith) (λ z. omega arith)
+
+-- of each kind
+pub ruleset fields_by_kind = (fields_1, fields_2, fields_3, fields_4, fields_5)
 
 -- ---- kinds and lengths
 
@@ -70,50 +80,42 @@ due_kind Row k n e = elim (or_one (is_pair k n 3 178) _ e) [
   ])
 ]
 
--- a record of a due kind and length is long enough for its fields
-pub sized : {w : Due} (b : List ℕ) (off n : ℕ) → Kind w (le16 b 4) n → length b ≡ 4 + n → off + length b < 18446744073709551616 → Sized b off
-sized b off n (a_head k e) l f = record {
-  fits = f;
-  six = omega arith;
-  head = λ z. omega arith;
-  point = λ z. absurd (omega arith);
-  scalar = λ z. absurd (omega arith);
-  corotational = λ z. absurd (omega arith);
-  other = λ p q r t. absurd (p k);
-}
-sized b off n (a_point k e) l f = record {
-  fits = f;
-  six = omega arith;
-  head = λ z. absurd (omega arith);
-  point = λ z. omega arith;
-  scalar = λ z. absurd (omega arith);
-  corotational = λ z. absurd (omega arith);
-  other = λ p q r t. absurd (q k);
-}
-sized b off n (a_scalar k e) l f = record {
-  fits = f;
-  six = omega arith;
-  head = λ z. absurd (omega arith);
-  point = λ z. absurd (omega arith);
-  scalar = λ z. omega arith;
-  corotational = λ z. absurd (omega arith);
-  other = λ p q r t. absurd (r k);
-}
-sized b off n (a_corotational k e) l f = record {
-  fits = f;
-  six = omega arith;
-  head = λ z. absurd (omega arith);
-  point = λ z. absurd (omega arith);
-  scalar = λ z. absurd (omega arith);
-  corotational = λ z. omega arith;
-  other = λ p q r t. absurd (t k);
-}
-sized b off n (a_neo_hookean k e) l f = record {
-  fits = f;
-  six = omega arith;
-  head = λ z. absurd (omega arith);
-  point = λ z. absurd (omega arith);
-  scalar = λ z. absurd (omega arith);
-  corotational = λ z. absurd (omega arith);
-  other = λ p q r t. omega arith;
-}
+-- ---- by the kinds of the code
+
+or_no : (t : Bool) → (t || false) ≡ t
+or_no true = refl
+or_no false = refl
+
+pub is_due_kind : (w : Due) (kind : code.Kind) (n : ℕ) → is_due w (number_of_kind kind) n ≡ (sameb the_type (due_as kind) w && eqb n (length_of kind))
+unfolding is_due is_pair
+is_due_kind Head kinds.Head n = refl
+is_due_kind Head kinds.Point n = refl
+is_due_kind Head (kinds.Row Scalar) n = refl
+is_due_kind Head (kinds.Row Corotational) n = refl
+is_due_kind Head (kinds.Row NeoHookean) n = refl
+is_due_kind Point kinds.Head n = refl
+is_due_kind Point kinds.Point n = refl
+is_due_kind Point (kinds.Row Scalar) n = refl
+is_due_kind Point (kinds.Row Corotational) n = refl
+is_due_kind Point (kinds.Row NeoHookean) n = refl
+is_due_kind Row kinds.Head n = refl
+is_due_kind Row kinds.Point n = refl
+is_due_kind Row (kinds.Row Scalar) n = or_no (eqb n 178)
+is_due_kind Row (kinds.Row Corotational) n = or_no (eqb n 614)
+is_due_kind Row (kinds.Row NeoHookean) n = refl
+
+-- a number that no kind has
+pub no_kind_due : (w : Due) (k n : ℕ) → ((kind : code.Kind) → number_of_kind kind ≡ k → ⊥) → is_due w k n ≡ false
+unfolding is_due is_pair
+no_kind_due w k n h = go (is_due w k n) refl
+  where
+    none : {w : Due} → Kind w k n → ⊥
+    none (a_head e l) = h kinds.Head (sym e)
+    none (a_point e l) = h kinds.Point (sym e)
+    none (a_scalar e l) = h (kinds.Row Scalar) (sym e)
+    none (a_corotational e l) = h (kinds.Row Corotational) (sym e)
+    none (a_neo_hookean e l) = h (kinds.Row NeoHookean) (sym e)
+
+    go : (t : Bool) → is_due w k n ≡ t → is_due w k n ≡ false
+    go true e = absurd (none (due_kind w k n e))
+    go false e = e

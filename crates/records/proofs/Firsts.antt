@@ -4,9 +4,12 @@ use mathlib.Core.Path.{◌≡◌, refl, sym, ap, ◌∙◌}
 use mathlib.Core.Bool.{Bool, true, false, cond}
 use mathlib.Core.List.{List, [], ◌∷◌, ◌++◌}
 use native.Mathlib.Omega.{arith}
-use borrow.Author.Tests.{eq-eqb, ne_eqb}
+use Rattle.std.specs.Prelude.{Result, Ok, Err}
 use Rattle.records.specs.declared.Answer.{Answer}
-use Rattle.records.specs.Answers.{Refusal, number_of, Test, ◌then◌, notWhole, notDue, tooMany, badCode, notFinite, disordered, colourFalls, extraBytes, clash, refused, accepted, first_of, from, first_from, Passed, ◌or_else◌}
+use Rattle.records.specs.declared.Refusal.{Refusal}
+use Rattle.records.specs.declared.Refusal.TheVariants.{NotWhole, NotDue, TooMany, BadCode, NotFinite, Disordered, ColourFalls, ExtraBytes, Clash}
+use Rattle.records.specs.declared.Refused.{Refused}
+use Rattle.records.specs.Answers.{number_of, Test, refused, accepted, first_of, from, Passed, outcome, outcome_from, answer_of}
 
 abbrev pub Zero : Answer → Type 0
 Zero a = a.number ≡ 0
@@ -15,40 +18,32 @@ pub zero_of : {a b : Answer} → a ≡ b → Zero a → Zero b
 zero_of e z = ap (λ (x : Answer). x.number) (sym e) ∙ z
 
 pub never_0 : (r : Refusal) → number_of r ≡ 0 → ⊥
-never_0 notWhole e = omega arith
-never_0 notDue e = omega arith
-never_0 tooMany e = omega arith
-never_0 badCode e = omega arith
-never_0 notFinite e = omega arith
-never_0 disordered e = omega arith
-never_0 colourFalls e = omega arith
-never_0 extraBytes e = omega arith
-never_0 clash e = omega arith
-
--- ---- one answer, and else another
-
-pub stop_at : (a b r : Answer) → r ≡ a → (Zero r → ⊥) → r ≡ (a or_else b)
-unfolding ◌or_else◌
-stop_at a b r e h = e ∙ simp (← e, ne_eqb r.number 0 h)
-
-pub go_on : (a b r h : Answer) → h ≡ a → Zero h → r ≡ b → r ≡ (a or_else b)
-unfolding ◌or_else◌
-go_on a b r h e z q = q ∙ simp (← e, eq-eqb h.number 0 z)
+never_0 NotWhole e = omega arith
+never_0 NotDue e = omega arith
+never_0 TooMany e = omega arith
+never_0 BadCode e = omega arith
+never_0 NotFinite e = omega arith
+never_0 Disordered e = omega arith
+never_0 ColourFalls e = omega arith
+never_0 ExtraBytes e = omega arith
+never_0 Clash e = omega arith
 
 -- ---- two lists, one after the other
 
-refuses_first : (r : Refusal) (p : ℕ) (b : Answer) → refused (number_of r) p ≡ (refused (number_of r) p or_else b)
-unfolding ◌or_else◌
-refuses_first r p b = simp (ne_eqb (number_of r) 0 (never_0 r))
+-- the second outcome where the first is Ok
+infixr 20 ◌and_then◌
+abbrev pub ◌and_then◌ : Result Unit Refused → Result Unit Refused → Result Unit Refused
+Ok u and_then r = r
+Err e and_then r = Err e
 
-pub first_append : (ts us : List Test) → first_of (ts ++ us) ≡ (first_of ts or_else first_of us)
-unfolding first_of ◌or_else◌
-first_append [] us = refl
-first_append (t ∷ ts) us = go t.fails (first_append ts us)
+pub outcome_append : (ts us : List Test) → outcome (ts ++ us) ≡ (outcome ts and_then outcome us)
+unfolding outcome
+outcome_append [] us = refl
+outcome_append (t ∷ ts) us = go t.fails (outcome_append ts us)
   where
-    go : (b : Bool) → first_of (ts ++ us) ≡ (first_of ts or_else first_of us)
-        → cond b (refused (number_of t.refusal) t.place) (first_of (ts ++ us)) ≡ (cond b (refused (number_of t.refusal) t.place) (first_of ts) or_else first_of us)
-    go true ih = refuses_first t.refusal t.place (first_of us)
+    go : (b : Bool) → outcome (ts ++ us) ≡ (outcome ts and_then outcome us)
+        → cond b (Err (record { why = t.refusal; place = t.place })) (outcome (ts ++ us)) ≡ (cond b (Err (record { why = t.refusal; place = t.place })) (outcome ts) and_then outcome us)
+    go true ih = refl
     go false ih = ih
 
 pub from_append : (off : ℕ) (ts us : List Test) → from off (ts ++ us) ≡ from off ts ++ from off us
@@ -56,12 +51,34 @@ unfolding from
 from_append off [] us = refl
 from_append off (t ∷ ts) us = ap (record { fails = t.fails; refusal = t.refusal; place = off + t.place } ∷◌) (from_append off ts us)
 
-pub first_from_append : (off : ℕ) (ts us : List Test) → first_from off (ts ++ us) ≡ (first_from off ts or_else first_from off us)
-first_from_append off ts us = ap first_of (from_append off ts us) ∙ first_append (from off ts) (from off us)
+pub outcome_from_append : (off : ℕ) (ts us : List Test) → outcome_from off (ts ++ us) ≡ (outcome_from off ts and_then outcome_from off us)
+outcome_from_append off ts us = ap outcome (from_append off ts us) ∙ outcome_append (from off ts) (from off us)
 
--- the answers of two lists of tests, the first in front
-pub joined : {p q r : Answer} (off : ℕ) (ts us : List Test) → p ≡ first_from off ts → q ≡ first_from off us → r ≡ p or_else q → r ≡ first_from off (ts then us)
-joined off ts us ep eq er = rw (er, ep, eq) (sym (first_from_append off ts us))
+-- ---- Ok exactly where all pass, and the number and place are those of the first that fails
+
+pub answer_outcome : (ts : List Test) → answer_of (outcome ts) ≡ first_of ts
+unfolding outcome first_of
+answer_outcome [] = refl
+answer_outcome (t ∷ ts) = go t.fails (answer_outcome ts)
+  where
+    go : (b : Bool) → answer_of (outcome ts) ≡ first_of ts
+        → answer_of (cond b (Err (record { why = t.refusal; place = t.place })) (outcome ts)) ≡ cond b (refused (number_of t.refusal) t.place) (first_of ts)
+    go true ih = refl
+    go false ih = ih
+
+pub passed_outcome : (ts : List Test) → Passed ts → outcome ts ≡ Ok tt
+unfolding outcome Passed
+passed_outcome [] p = refl
+passed_outcome (t ∷ ts) p = simp p.0 (passed_outcome ts p.1)
+
+pub outcome_passed : (ts : List Test) → outcome ts ≡ Ok tt → Passed ts
+unfolding outcome Passed
+outcome_passed [] e = tt
+outcome_passed (t ∷ ts) e = go t.fails refl e (outcome_passed ts)
+  where
+    go : (b : Bool) → t.fails ≡ b → cond b (Err (record { why = t.refusal; place = t.place })) (outcome ts) ≡ Ok tt → (outcome ts ≡ Ok tt → Passed ts) → (t.fails ≡ false) × Passed ts
+    go true e z ih = cc
+    go false e z ih = (e, ih z)
 
 -- ---- accepted exactly where all pass
 
@@ -78,9 +95,6 @@ first_passed (t ∷ ts) z = go t.fails refl z (first_passed ts)
     go : (b : Bool) → t.fails ≡ b → Zero (cond b (refused (number_of t.refusal) t.place) (first_of ts)) → (Zero (first_of ts) → Passed ts) → (t.fails ≡ false) × Passed ts
     go true e z ih = absurd (never_0 t.refusal z)
     go false e z ih = (e, ih z)
-
-pub passed_of : (ts : List Test) (r : Answer) → r ≡ first_of ts → Zero r → Passed ts
-passed_of ts r e z = first_passed ts (zero_of e z)
 
 pub passed_join : (ts us : List Test) → Passed ts → Passed us → Passed (ts ++ us)
 unfolding Passed

@@ -1,23 +1,27 @@
 -- A record's shape (six bytes there, kind and length due, whole), and a record's tests in its frame. Assumes nothing.
-use Prim.Native.Nat.{ℕ, ◌+◌, ◌-◌, ◌≤◌, ◌<◌}
-use mathlib.Core.Path.{◌≡◌, sym, ap, ◌∙◌, subst}
-use mathlib.Core.Bool.{Bool, true, false}
+use Prim.Native.Nat.{ℕ, ◌+◌, ◌-◌, ◌≤◌}
+use mathlib.Core.Path.{◌≡◌, refl, sym, ap, ◌∙◌}
+use mathlib.Core.Bool.{Bool, true, false, not}
 use mathlib.Core.List.{List}
 use native.Mathlib.Omega.{arith}
 use native.Mathlib.Decide.{dec_lt}
 use lib.ListN.{length}
 use lib.Dec.{ltb}
 use borrow.Author.Tests.{le-ltb, lt-ltb, ltb-false, not-false}
+use Rattle.std.specs.Prelude.{Result, Ok}
 use Rattle.little_endian.specs.Bytes.{le16, le32}
 use Rattle.little_endian.proofs.Parts.{le16_part, length_part}
 use Rattle.records.specs.declared.Due.{Due}
-use Rattle.records.specs.declared.Answer.{Answer}
-use Rattle.records.specs.Answers.{first_of, from, first_from, Passed, refuse_if}
+use Rattle.records.specs.declared.Refusal.{Refusal}
+use Rattle.records.specs.declared.Refusal.TheVariants.{NotWhole, NotDue}
+use Rattle.records.specs.declared.Refused.{Refused}
+use Rattle.records.specs.Layout.{kind_at}
+use Rattle.records.specs.Answers.{Passed, refuse, outcome}
 use Rattle.records.specs.Fields.{fields}
+use Rattle.records.specs.Outcomes.{refusal_of}
 use Rattle.records.specs.Records.{is_due, record_length, record_at, shape, record_tests}
-use Rattle.records.specs.Sized.{Sized}
-use Rattle.records.proofs.Firsts.{Zero, stop_at, go_on, first_append, passed_of, passed_join, passed_split, passed_from, passed_back}
-use Rattle.records.proofs.ByKind.{Kind, a_head, a_point, a_scalar, a_corotational, a_neo_hookean, due_kind, sized}
+use Rattle.records.proofs.Firsts.{◌and_then◌, outcome_append, outcome_passed, passed_join, passed_split, passed_from, passed_back}
+use Rattle.records.proofs.ByKind.{Kind, a_head, a_point, a_scalar, a_corotational, a_neo_hookean, due_kind}
 
 pub record Shaped (w : Due) (s : List ℕ) (off : ℕ) : Type 0 where
   pub six : off + 6 ≤ length s
@@ -40,36 +44,23 @@ module _ (w : Due) (s : List ℕ) (off : ℕ) where
 -- ---- what the code returns
 
 module _ (w : Due) (s : List ℕ) (off : ℕ) (inside : off ≤ length s) where
-  pub shape_short : {r : Answer} → length s - off < 6 → r ≡ refuse_if true 1 off → r ≡ first_of (shape w s off)
-  unfolding shape first_of refuse_if
-  shape_short h e = e ∙ simp (lt-ltb (length s) (off + 6) (omega arith))
+  within : (n : ℕ) → ltb (length s - off) n ≡ ltb (length s) (off + n)
+  within n = elim (dec_lt (length s - off) n) [
+    | yes h ↦ lt-ltb (length s - off) n h ∙ sym (lt-ltb (length s) (off + n) (omega arith))
+    | no h ↦ le-ltb (length s - off) n (omega arith) ∙ sym (le-ltb (length s) (off + n) (omega arith))
+  ]
 
-  module _ (six : 6 ≤ length s - off) (k n : ℕ) (t : Bool) (et : t ≡ is_due w k n) (ek : k ≡ le16 s (off + 4)) (en : n ≡ le32 s off) where
-    pub shape_not_due : {r : Answer} → t ≡ false → r ≡ refuse_if true 2 off → r ≡ first_of (shape w s off)
-    unfolding shape first_of refuse_if
-    shape_not_due z e = e ∙ simp (le-ltb (length s) (off + 6) (omega arith), ← ek, ← en, ← et, z)
+  pub shape_is : outcome (shape w s off) ≡
+      (outcome (refuse NotWhole off (ltb (length s - off) 6)) and_then
+      outcome (refuse NotDue off (not (is_due w (le16 s (off + kind_at)) (le32 s off)))) and_then
+      outcome (refuse NotWhole off (ltb (length s - off) (4 + le32 s off))))
+  unfolding shape
+  shape_is = simp (within 6, within (4 + le32 s off), outcome_append) refl
 
-    ends : ltb (length s - off) (4 + n) ≡ ltb (length s) (off + (4 + n))
-    ends = elim (dec_lt (length s - off) (4 + n)) [
-      | yes h ↦ lt-ltb (length s - off) (4 + n) h ∙ sym (lt-ltb (length s) (off + (4 + n)) (omega arith))
-      | no h ↦ le-ltb (length s - off) (4 + n) (omega arith) ∙ sym (le-ltb (length s) (off + (4 + n)) (omega arith))
-    ]
-
-    pub shape_rest : {r : Answer} → t ≡ true → r ≡ refuse_if (ltb (length s - off) (4 + n)) 1 off → r ≡ first_of (shape w s off)
-    unfolding shape first_of refuse_if
-    shape_rest z e = e ∙ simp (le-ltb (length s) (off + 6) (omega arith), ← ek, ← en, ← et, z, ends)
-
-module _ (w : Due) (s : List ℕ) (off c : ℕ) where
-  pub record_stops : {r : Answer} → r ≡ first_of (shape w s off) → (Zero r → ⊥) → r ≡ first_of (record_tests w s off c)
-  unfolding record_tests
-  record_stops {r} e z = stop_at _ _ r e z ∙ sym (first_append (shape w s off) (from off (fields (record_at s off) c)))
-
-  pub record_goes : {h r : Answer} {b : List ℕ} → h ≡ first_of (shape w s off) → Zero h → r ≡ first_from off (fields b c) → b ≡ record_at s off → r ≡ first_of (record_tests w s off c)
-  unfolding record_tests
-  record_goes {h} {r} e z f g = go_on _ _ r h e z (f ∙ ap (λ (l : List ℕ). first_from off (fields l c)) g) ∙ sym (first_append (shape w s off) (from off (fields (record_at s off) c)))
-
-pub shaped_of : (w : Due) (s : List ℕ) (off : ℕ) {h : Answer} → h ≡ first_of (shape w s off) → Zero h → Shaped w s off
-shaped_of w s off {h} e z = shaped w s off (passed_of (shape w s off) h e z)
+pub not_refused : (why : Refusal) (place : ℕ) (bad : Bool) {r : Result Unit Refused} {u : Unit} → r ≡ outcome (refuse why place bad) → r ≡ Ok u → bad ≡ false
+unfolding outcome
+not_refused why place true e z = cc
+not_refused why place false e z = refl
 
 -- ---- a record that passes
 
@@ -81,6 +72,9 @@ longer (a_scalar k e) = omega arith
 longer (a_corotational k e) = omega arith
 longer (a_neo_hookean k e) = omega arith
 
+pub shaped_of : (w : Due) (s : List ℕ) (off : ℕ) {A : Type 0} {r : Result A Refused} {a : A} → refusal_of r ≡ outcome (shape w s off) → r ≡ Ok a → Shaped w s off
+shaped_of w s off e z = shaped w s off (outcome_passed (shape w s off) (sym e ∙ ap refusal_of z))
+
 module _ {w : Due} {s : List ℕ} {off : ℕ} (x : Shaped w s off) where
   pub kind_of : Kind w (le16 s (off + 4)) (le32 s off)
   kind_of = due_kind w (le16 s (off + 4)) (le32 s off) x.due
@@ -90,12 +84,6 @@ module _ {w : Due} {s : List ℕ} {off : ℕ} (x : Shaped w s off) where
 
   pub kind_record : le16 (record_at s off) 4 ≡ le16 s (off + 4)
   kind_record = le16_part s off (record_length s off) 4 (omega (arith, longer kind_of))
-
-  pub sized_of : (b : List ℕ) → b ≡ record_at s off → length s < 18446744073709551616 → Sized b off
-  sized_of b e small =
-      let l : length b ≡ 4 + le32 s off = ap length e ∙ length-record in
-      let whole = x.whole in
-      sized b off (le32 s off) (subst (λ (k : ℕ). Kind w k (le32 s off)) (sym (ap (λ (r : List ℕ). le16 r 4) e ∙ kind_record)) kind_of) l (omega arith)
 
 module _ (w : Due) (s : List ℕ) (off c : ℕ) where
   pub record_passed : Passed (record_tests w s off c) → Shaped w s off × Passed (fields (record_at s off) c)

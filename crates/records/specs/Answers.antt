@@ -1,22 +1,21 @@
 -- What check answers: a number and a place, by the first of a list of tests that fails. Assumes nothing.
-use Rattle.std.specs.Prelude.{ℕ, ◌+◌, ◌≡◌, Bool, false, cond, List, [], ◌∷◌, ◌++◌, eqb}
+use Rattle.std.specs.Prelude.{ℕ, ◌+◌, ◌≡◌, Bool, false, cond, List, [], ◌∷◌, ◌++◌, Result, Ok, Err}
 use Rattle.records.specs.declared.Answer.{Answer}
+use Rattle.records.specs.declared.Refusal.{Refusal}
+use Rattle.records.specs.declared.Refusal.TheVariants.{NotWhole, NotDue, TooMany, BadCode, NotFinite, Disordered, ColourFalls, ExtraBytes, Clash}
+use Rattle.records.specs.declared.Refused.{Refused}
 
--- why a frame is refused, in the order of document 01's table
-pub data Refusal : Type 0 where
-  notWhole notDue tooMany badCode notFinite disordered colourFalls extraBytes clash : Refusal
-
--- and the table's number for it
+-- a refusal's number in document 01's table
 abbrev pub number_of : Refusal → ℕ
-number_of notWhole = 1
-number_of notDue = 2
-number_of tooMany = 3
-number_of badCode = 4
-number_of notFinite = 5
-number_of disordered = 6
-number_of colourFalls = 7
-number_of extraBytes = 8
-number_of clash = 9
+number_of NotWhole = 1
+number_of NotDue = 2
+number_of TooMany = 3
+number_of BadCode = 4
+number_of NotFinite = 5
+number_of Disordered = 6
+number_of ColourFalls = 7
+number_of ExtraBytes = 8
+number_of Clash = 9
 
 abbrev pub refused : ℕ → ℕ → Answer
 refused n p = record { number = n; place = p }
@@ -57,11 +56,16 @@ unfoldable pub Passed : List Test → Type 0
 Passed [] = Unit
 Passed (t ∷ ts) = (t.fails ≡ false) × Passed ts
 
--- refused with n at p where the test holds
-unfoldable pub refuse_if : Bool → ℕ → ℕ → Answer
-refuse_if b n p = cond b (refused n p) accepted
+-- ---- as the code has it: Ok, or why and where
 
--- the first answer unless it accepts, then the second
-infixr 20 ◌or_else◌
-unfoldable pub ◌or_else◌ : Answer → Answer → Answer
-◌or_else◌ a b = cond (eqb a.number 0) b a
+unfoldable pub outcome : List Test → Result Unit Refused
+outcome [] = Ok tt
+outcome (t ∷ ts) = cond t.fails (Err (record { why = t.refusal; place = t.place })) (outcome ts)
+
+abbrev pub outcome_from : ℕ → List Test → Result Unit Refused
+outcome_from off ts = outcome (from off ts)
+
+-- its number and place
+abbrev pub answer_of : Result Unit Refused → Answer
+answer_of (Ok u) = accepted
+answer_of (Err e) = refused (number_of e.why) e.place

@@ -5,38 +5,39 @@ use Rattle.std.specs.Float.{binary32}
 use Rattle.std.specs.Float.Ieee.{of_bits, lt, is_nan}
 use Rattle.little_endian.specs.Bytes.{le16, le32, f32_at, is_finite}
 use Rattle.records.specs.Layout.{kind_at, head_points, head_rows, head_mode, head_resweeps, head_warm, point_position, row_colour, row_strained, row_pos, scalar_type, scalar_count, scalar_lower, scalar_upper, elastic_inverted, elastic_fourth, elastic_strain_cap, coro_vol_cap}
-use Rattle.records.specs.Answers.{Test, ◌then◌, refuse, tooMany, badCode, notFinite, disordered, colourFalls}
+use Rattle.records.specs.declared.Refusal.TheVariants.{TooMany, BadCode, NotFinite, Disordered, ColourFalls}
+use Rattle.records.specs.Answers.{Test, ◌then◌, refuse}
 
 -- ---- single tests, each of the field at byte k
 
 -- 3: a number above its limit
 unfoldable pub limit16 : List ℕ → ℕ → ℕ → List Test
-limit16 b k most = refuse tooMany k (ltb most (le16 b k))
+limit16 b k most = refuse TooMany k (ltb most (le16 b k))
 
 unfoldable pub limit32 : List ℕ → ℕ → ℕ → List Test
-limit32 b k most = refuse tooMany k (ltb most (le32 b k))
+limit32 b k most = refuse TooMany k (ltb most (le32 b k))
 
 -- 4: a code outside its values, which are 0 to the last
 unfoldable pub code : List ℕ → ℕ → ℕ → List Test
-code b k last = refuse badCode k (ltb last (le16 b k))
+code b k last = refuse BadCode k (ltb last (le16 b k))
 
 -- 5: a float that is not finite; an impulse bound may be infinite, but no NaN
 unfoldable pub finite : List ℕ → ℕ → List Test
-finite b k = refuse notFinite k (not (is_finite (f32_at b k)))
+finite b k = refuse NotFinite k (not (is_finite (f32_at b k)))
 
 unfoldable pub bound : List ℕ → ℕ → List Test
-bound b k = refuse notFinite k (is_nan (f32_at b k))
+bound b k = refuse NotFinite k (is_nan (f32_at b k))
 
 -- 6: a lower bound above the upper, which follows it; a cap below 0 (minus zero is not below 0)
 unfoldable pub ordered : List ℕ → ℕ → List Test
-ordered b k = refuse disordered k (lt (f32_at b (k + 4)) (f32_at b k))
+ordered b k = refuse Disordered k (lt (f32_at b (k + 4)) (f32_at b k))
 
 unfoldable pub cap : List ℕ → ℕ → List Test
-cap b k = refuse disordered k (lt (f32_at b k) (of_bits binary32 0))
+cap b k = refuse Disordered k (lt (f32_at b k) (of_bits binary32 0))
 
 -- 7: a colour less than that of the row before, c
 unfoldable pub colour_from : List ℕ → ℕ → List Test
-colour_from b c = refuse colourFalls row_colour (ltb (le16 b row_colour) c)
+colour_from b c = refuse ColourFalls row_colour (ltb (le16 b row_colour) c)
 
 -- the test t of n floats, one after another from byte k on
 unfoldable pub run : (ℕ → List Test) → ℕ → ℕ → List Test

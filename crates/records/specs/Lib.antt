@@ -3,5 +3,6 @@ pub mod Layout
 pub mod Answers
 pub mod Fields
 pub mod Records
-pub mod Sized
+pub mod Kinds
+pub mod Outcomes
 pub mod AllFinite

@@ -4,7 +4,8 @@ use Rattle.little_endian.specs.Bytes.{le16, le32, part}
 use Rattle.records.specs.declared.Due.{Due}
 use Rattle.records.specs.declared.Due.TheVariants.{Head, Point, Row}
 use Rattle.records.specs.Layout.{kind_at, row_colour}
-use Rattle.records.specs.Answers.{Test, ◌then◌, refuse, from, notWhole, notDue}
+use Rattle.records.specs.declared.Refusal.TheVariants.{NotWhole, NotDue}
+use Rattle.records.specs.Answers.{Test, ◌then◌, refuse, from}
 use Rattle.records.specs.Fields.{fields}
 
 -- what is due at a place: a kind together with its length
@@ -26,9 +27,9 @@ record_at s off = part off (record_length s off) s
 -- 1: fewer than 6 bytes remain; 2: a kind or length that is not due; 1: the record is not whole
 unfoldable pub shape : Due → List ℕ → ℕ → List Test
 shape w s off =
-    refuse notWhole off (ltb (length s) (off + 6))
-    then refuse notDue off (not (is_due w (le16 s (off + kind_at)) (le32 s off)))
-    then refuse notWhole off (ltb (length s) (off + record_length s off))
+    refuse NotWhole off (ltb (length s) (off + 6))
+    then refuse NotDue off (not (is_due w (le16 s (off + kind_at)) (le32 s off)))
+    then refuse NotWhole off (ltb (length s) (off + record_length s off))
 
 -- the tests of the record that starts at off; c is the colour of the row before
 unfoldable pub record_tests : Due → List ℕ → ℕ → ℕ → List Test

@@ -1,17 +1,12 @@
 -- `little_endian::put_u32` meets its contract. Assumes nothing.
-use native.Mathlib.Omega.{arith}
-use native.Mathlib.Numerals.{towards_suc}
-use lib.ListN.{length-set}
+use mathlib.Core.Path.{sym, ◌∙◌}
+use mathlib.Core.List.{append_assoc}
+use Rattle.std.proofs.lemmas.List.Edits.{sets-eq}
+use Rattle.little_endian.specs.Bytes.{bytes4}
+use Rattle.little_endian.proofs.Parts.{lend}
 use Rattle.little_endian.proofs.put_u32.Goals as goal
 
-pub bounds-s-at-2 : goal.bounds-s-at-2
-bounds-s-at-2 c = simp length-set (omega arith)
-
-pub bounds-s-at-3 : goal.bounds-s-at-3
-bounds-s-at-3 c = simp length-set (omega arith)
-
-pub bounds-s-at-4 : goal.bounds-s-at-4
-bounds-s-at-4 c = simp length-set (omega arith)
-
 pub returns : goal.returns
-returns c = simp towards_suc
+returns c =
+    simp (c.copy_from_slice.ensures.after, c.to_le_bytes.ensures)
+    (lend c.args.at 4 c.args.s.now (bytes4 c.args.n) ∙ sym (simp append_assoc at (sets-eq (bytes4 c.args.n) c.args.s.now c.args.at c.requires)))
