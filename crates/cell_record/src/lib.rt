@@ -143,11 +143,21 @@ pub fn matrix_at<const N: usize>(b: RowBytes<N>, k: usize) -> [f32; 36]
     ])
 }
 
-// The block's inverse times a residual: it is read and multiplied in one function, which both kinds call, and so it is never copied.
+#[inline(always)]
 #[tactic(auto, unfolding(stored::specs::Read::compliance_of))]
+pub fn compliance_of(b: ElasticBytes) -> Compliance
+    ensures { result ≡ compliance_of b.entry.bytes.now }
+{
+    Compliance {
+        inv_a: matrix_at(b, layout::ELASTIC_INV_A),
+    }
+}
+
+// The block's inverse times a residual: read and multiplied in one function, which both kinds call, since the product would lose its vectors if
+// it were compiled into a solve.
+#[inline(never)]
 pub fn eased_at(b: ElasticBytes, residual: &[f32; 6]) -> [f32; 6]
     ensures { result ≡ mat_vec (compliance_of b.entry.bytes.now).inv_a residual.now }
 {
-    let inv_a = matrix_at(b, layout::ELASTIC_INV_A);
-    Compliance { inv_a }.eased(residual)
+    compliance_of(b).eased(residual)
 }
