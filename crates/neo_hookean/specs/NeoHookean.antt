@@ -32,7 +32,7 @@ is_fresh strain last = all_within6 (sub6 strain last) nearby
 
 -- M = dt (dt K + D)
 unfoldable pub stiffness_matrix : Material → Energy → List Float
-stiffness_matrix p e = scale36 (add36 (scale36 (hessian p.mu p.lambda e.s e.kappa) p.dt) (from_diagonal p.damping)) p.dt
+stiffness_matrix p e = scale36 (add36 (scale36 (hessian p.lame.mu p.lame.lambda e.s e.kappa) p.dt) (from_diagonal p.damping)) p.dt
 
 -- the effective-mass block A, from G = Σ w_p c_p c_pᵀ
 unfoldable pub strain_block : Four Vec3 → Masses → List Float
@@ -54,7 +54,7 @@ kept k invA dtGrad = record { stiffness = record { stiffness_strain = k.stiffnes
 
 unfoldable pub update_block : Four Vec3 → Masses → Material → Stiffness → List Float → List Float → Block
 update_block coeffs im p k invA strain =
-    let e = gradient p.mu p.lambda strain in
+    let e = gradient p.lame.mu p.lame.lambda strain in
     let dtGrad = scale6 e.grad p.dt in
     cond (is_fresh strain k.stiffness_strain) (kept k invA dtGrad) (renewed coeffs im p e strain dtGrad)
 
