@@ -7,17 +7,17 @@ use Rattle.vector.specs.declared.Mat3.{Mat3}
 use Rattle.vector.specs.declared.Four.{Four}
 
 -- the edges from particle 0, as columns
-unfoldable pub cell_edge_matrix : Four → Mat3
+unfoldable pub cell_edge_matrix : Four Vec3 → Mat3
 cell_edge_matrix x = record { x = sub x.b x.a; y = sub x.c x.a; z = sub x.d x.a }
 
-unfoldable pub cell_volume : Four → Float
+unfoldable pub cell_volume : Four Vec3 → Float
 cell_volume x = dot (sub x.b x.a) (cross (sub x.c x.a) (sub x.d x.a)) ⊘ f6
 
 -- the gradient of the volume by a particle, from the edges to the next two
 unfoldable pub face_gradient : Vec3 → Vec3 → Vec3
 face_gradient u v = divide (cross u v) f6
 
-unfoldable pub cell_volume_gradients : Four → Four
+unfoldable pub cell_volume_gradients : Four Vec3 → Four Vec3
 cell_volume_gradients x =
     let a = sub x.b x.a in
     let b = sub x.c x.a in

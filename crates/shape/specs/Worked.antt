@@ -23,7 +23,7 @@ abbrev bits : ℕ → Float
 bits b = of_bits binary32 b
 
 -- particle 0 at the origin, and the others at 1 on each axis
-abbrev corner : Four
+abbrev corner : Four Vec3
 corner = record { a = vec f0 f0 f0; b = vec f1 f0 f0; c = vec f0 f1 f0; d = vec f0 f0 f1 }
 
 -- the nearest to 1/6, and to -1/6

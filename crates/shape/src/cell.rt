@@ -2,46 +2,42 @@
 ghost use Rattle.std.specs.Prelude.{◌≡◌};
 ghost use Rattle.shape.specs.Cell as spec;
 
-use vector::{Four, Mat3, Vec3, add, cross, divide, dot, neg, sub};
+use vector::{Four, Mat3, Vec3};
 
-pub fn cell_edge_matrix(x: Four) -> Mat3
+#[tactic(auto, unfolding(crate::specs::Cell::cell_edge_matrix))]
+pub fn cell_edge_matrix(x: Four<Vec3>) -> Mat3
     ensures { result ≡ spec.cell_edge_matrix x }
 {
     Mat3 {
-        x: sub(x.b, x.a),
-        y: sub(x.c, x.a),
-        z: sub(x.d, x.a),
+        x: x.b - x.a,
+        y: x.c - x.a,
+        z: x.d - x.a,
     }
 }
 
-pub fn cell_volume(x: Four) -> f32
+#[tactic(auto, unfolding(crate::specs::Cell::cell_volume))]
+pub fn cell_volume(x: Four<Vec3>) -> f32
     ensures { result ≡ spec.cell_volume x }
 {
-    dot(sub(x.b, x.a), cross(sub(x.c, x.a), sub(x.d, x.a))) / 6.0
+    (x.b - x.a).dot((x.c - x.a).cross(x.d - x.a)) / 6.0
 }
 
 // The gradient by a particle, from the edges to the next two.
+#[tactic(auto, unfolding(crate::specs::Cell::face_gradient))]
 fn face_gradient(u: Vec3, v: Vec3) -> Vec3
     ensures { result ≡ spec.face_gradient u v }
 {
-    divide(cross(u, v), 6.0)
+    u.cross(v) / 6.0
 }
 
-pub fn cell_volume_gradients(x: Four) -> Four
+#[tactic(auto, unfolding(crate::specs::Cell::cell_edge_matrix, crate::specs::Cell::cell_volume_gradients))]
+pub fn cell_volume_gradients(x: Four<Vec3>) -> Four<Vec3>
     ensures { result ≡ spec.cell_volume_gradients x }
 {
-    let a = sub(x.b, x.a);
-    let b = sub(x.c, x.a);
-    let c = sub(x.d, x.a);
-    let g1 = face_gradient(b, c);
-    let g2 = face_gradient(c, a);
-    let g3 = face_gradient(a, b);
-    let sum = add(add(g1, g2), g3);
-    let g0 = neg(sum);
-    Four {
-        a: g0,
-        b: g1,
-        c: g2,
-        d: g3,
-    }
+    let edges = cell_edge_matrix(x);
+    let b = face_gradient(edges.y, edges.z);
+    let c = face_gradient(edges.z, edges.x);
+    let d = face_gradient(edges.x, edges.y);
+    let sum = b + c + d;
+    Four { a: -sum, b, c, d }
 }

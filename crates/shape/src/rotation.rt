@@ -2,39 +2,40 @@
 ghost use Rattle.std.specs.Prelude.{◌≡◌};
 ghost use Rattle.shape.specs.Rotation as spec;
 
-use vector::quaternion::{from_axis_angle, normalise, product, to_matrix};
 use vector::{Mat3, Quat, Vec3};
 
 // Columns crossed, and summed from zero, as the source does.
+#[tactic(auto, unfolding(crate::specs::Rotation::cross_sum))]
 fn cross_sum(r: Mat3, a: Mat3) -> Vec3
     ensures { result ≡ spec.cross_sum r a }
 {
-    let x = vector::add(vector::zero_vector(), vector::cross(r.x, a.x));
-    let y = vector::add(x, vector::cross(r.y, a.y));
-    vector::add(y, vector::cross(r.z, a.z))
+    Vec3::zero() + r.x.cross(a.x) + r.y.cross(a.y) + r.z.cross(a.z)
 }
 
+#[tactic(auto, unfolding(crate::specs::Rotation::dot_sum))]
 fn dot_sum(r: Mat3, a: Mat3) -> f32
     ensures { result ≡ spec.dot_sum r a }
 {
-    0.0 + vector::dot(r.x, a.x) + vector::dot(r.y, a.y) + vector::dot(r.z, a.z)
+    0.0 + r.x.dot(a.x) + r.y.dot(a.y) + r.z.dot(a.z)
 }
 
 // The source's omega: an axis to turn q about, as long as the angle.
+#[tactic(auto, unfolding(crate::specs::Rotation::correction))]
 fn correction(a: Mat3, q: Quat) -> Vec3
     ensures { result ≡ spec.correction a q }
 {
-    let r = to_matrix(q);
+    let r = q.to_matrix();
     let denom = real::abs(dot_sum(r, a)) + 1.0e-9;
-    vector::scale(cross_sum(r, a), 1.0 / denom)
+    cross_sum(r, a) * (1.0 / denom)
 }
 
 // The correction o, which is w long, as a quaternion; where it is small not of length 1.
+#[tactic(auto, unfolding(crate::specs::Rotation::step))]
 fn step(o: Vec3, w: f32) -> Quat
     ensures { result ≡ spec.step o w }
 {
     if w > 0.1 {
-        return from_axis_angle(vector::divide(o, w), w);
+        return Quat::from_axis_angle(o / w, w);
     }
     Quat {
         x: 0.5 * o.x,
@@ -45,25 +46,25 @@ fn step(o: Vec3, w: f32) -> Quat
 }
 
 // q after a turn by the correction o, which is w long.
+#[tactic(auto, unfolding(crate::specs::Rotation::turned))]
 fn turned(o: Vec3, w: f32, q: Quat) -> Quat
     ensures { result ≡ spec.turned o w q }
 {
-    normalise(product(step(o, w), q))
+    (step(o, w) * q).normalise()
 }
 
 pub fn extract_rotation(a: Mat3, warm: Quat) -> Quat
     ensures { result ≡ spec.extract_rotation a warm }
 {
     let mut q = warm;
-    for i in 0usize..8 {
+    for _ in 0usize..8 {
         let o = correction(a, q);
-        let w = vector::length(o);
+        let w = o.length();
         // 16 times f32's EPSILON
         if w < 1.9073486e-6 {
             break;
         }
-        let n = turned(o, w, q);
-        q = n;
+        q = turned(o, w, q);
     }
     q
 }
