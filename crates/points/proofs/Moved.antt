@@ -369,3 +369,7 @@ long_same (suc n) w = ap suc (long_same n w)
 
 pub fit_same : (w : Vec3) → Fit3 w → Fit (replicate 4096 w)
 fit_same w h = record { long = long_same 4096 w; all = all_same 4096 w h }
+
+pub fit_zeros : Fit (replicate 4096 zero_vector)
+unfolding zero_vector
+fit_zeros = fit_same zero_vector (record { x = of_bits-fits binary32 0; y = of_bits-fits binary32 0; z = of_bits-fits binary32 0 })

@@ -32,7 +32,7 @@ fn counted_ids(count: u16, i: Ids) -> Ids
     }
 }
 
-#[tactic(auto, using(crate::proofs::ByKind::long_row, crate::proofs::ByKind::names_scalar, crate::proofs::ByKind::names_other))]
+#[tactic(auto, using(crate::proofs::ByKind::long_row, crate::proofs::ByKind::names_of_kind))]
 pub fn names_at(b: &[u8]) -> Ids
     requires { row_length (le16 b.now 4) ≤ length b.now }
     ensures { result ≡ spec.names_at b.now }
