@@ -1,5 +1,5 @@
-// The scalar row of soft_scalar_constraint.rs: its update, its warm start, its solve and the test for strain. No row function sees a frame: what the row's
-// places hold goes in, and what each is to lose comes out.
+// The scalar row of soft_scalar_constraint.rs: its update, its warm start, its solve and the test for strain. No row function sees a frame:
+// what the row's places hold goes in, and what each is to lose comes out.
 #![tactic(auto)]
 
 ghost use Rattle.std.specs.Prelude.{◌≡◌};
