@@ -8,7 +8,7 @@ pub loop-init : goal.loop-init
 loop-init c = ran_none
 
 pub loop-preserved : goal.loop-preserved
-loop-preserved c = ran_more c.loop.invariant (search rules) c.doubled.ensures
+loop-preserved c = ran_more c.loop.invariant (search rules) c.doubled-a.ensures
 
 pub returns : goal.returns
 unfolding sin_cos
