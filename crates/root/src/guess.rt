@@ -262,6 +262,7 @@ static QUADRATICS: [u64; 256] = [
 ];
 
 // The quadratic t at d of 65536 parts of its interval.
+#[tactic(auto, using(crate::specs::Close::product_le))]
 fn curve(t: u64, d: u64) -> u64
     requires { d < 65536 }
     ensures { result < 2 ^ 25 }
