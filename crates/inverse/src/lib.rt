@@ -50,6 +50,7 @@ fn swap_rows(m: &mut [f32; 36], p: usize, j: usize)
 }
 
 // Column j below the pivot becomes the multipliers.
+#[tactic(auto, using(loops::specs::Between::went_none, loops::specs::Between::went_more, loops::specs::Between::went_all), unfolding(crate::specs::Elimination::scaled))]
 fn scale(m: &mut [f32; 36], j: usize, inv: f32)
     requires { j < 6 }
     ensures { m.new ≡ elimination.scaled j inv m.old }
@@ -60,6 +61,7 @@ fn scale(m: &mut [f32; 36], j: usize, inv: f32)
 }
 
 // Column k below row j loses the multipliers times its entry in row j.
+#[tactic(auto, using(loops::specs::Between::went_none, loops::specs::Between::went_more, loops::specs::Between::went_all), unfolding(crate::specs::Elimination::reduced))]
 fn reduce(m: &mut [f32; 36], j: usize, k: usize)
     requires { (j < 6) × (k < 6) }
     ensures { m.new ≡ elimination.reduced j k m.old }
@@ -135,6 +137,7 @@ fn unit(rows: &[usize; 6], c: usize) -> [f32; 6]
     from_fn(|i| pick(rows[i] == c, 1.0, 0.0))
 }
 
+#[tactic(auto, using(loops::specs::Loops::ran_none, loops::specs::Loops::ran_more, loops::specs::Loops::ran_all), unfolding(crate::specs::Inverse::forward_at))]
 fn forward_at(m: &[f32; 36], x: &[f32; 6], i: usize) -> f32
     requires { i < 6 }
     ensures { result ≡ spec.forward_at m.now x.now i }
@@ -146,6 +149,7 @@ fn forward_at(m: &[f32; 36], x: &[f32; 6], i: usize) -> f32
     acc
 }
 
+#[tactic(auto, using(loops::specs::Loops::ran_none, loops::specs::Loops::ran_more, loops::specs::Loops::ran_all), unfolding(crate::specs::Inverse::forward))]
 fn forward(m: &[f32; 36], x: &mut [f32; 6])
     ensures { x.new ≡ spec.forward m.now x.old }
 {
@@ -155,6 +159,7 @@ fn forward(m: &[f32; 36], x: &mut [f32; 6])
     }
 }
 
+#[tactic(auto, using(loops::specs::Loops::ran_none, loops::specs::Loops::ran_more, loops::specs::Loops::ran_all), unfolding(crate::specs::Inverse::backward_at))]
 fn backward_at(m: &[f32; 36], x: &[f32; 6], i: usize) -> f32
     requires { i < 6 }
     ensures { result ≡ spec.backward_at m.now x.now i }
@@ -166,6 +171,7 @@ fn backward_at(m: &[f32; 36], x: &[f32; 6], i: usize) -> f32
     acc / m[i * 6 + i]
 }
 
+#[tactic(auto, using(loops::specs::Loops::ran_none, loops::specs::Loops::ran_more, loops::specs::Loops::ran_all), unfolding(crate::specs::Inverse::backward))]
 fn backward(m: &[f32; 36], x: &mut [f32; 6])
     ensures { x.new ≡ spec.backward m.now x.old }
 {
