@@ -4,7 +4,7 @@ use Rattle.std.proofs.Math.Path.{refl}
 use Rattle.std.proofs.Common.{add-mul, add-one, arith}
 use Rattle.loops.specs.Loops.{up_to}
 use Rattle.replay.specs.Words.{words_at}
-use Rattle.replay.specs.declared.file.Tally.{Tally}
+use Rattle.replay.specs.declared.tally.Tally.{Tally}
 
 -- the sums wrap only past any file's records
 abbrev pub plus : Tally → Tally → Tally
