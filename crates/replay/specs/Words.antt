@@ -1,6 +1,7 @@
 -- Values in the words of a record, from word k on: a float is its bits, a matrix goes column by column. Definitions only. Assumes nothing.
-use Rattle.std.specs.Prelude.{ℕ, ◌+◌, ◌*◌, Bool, true, ◌&&◌, List, [], ◌∷◌, replicate, ◌==◌, from_bits, slice_index, slice_set, to_bits, Float}
+use Rattle.std.specs.Prelude.{◌≡◌, refl, ℕ, ◌+◌, ◌*◌, Bool, true, false, ◌&&◌, List, [], ◌∷◌, replicate, ◌==◌, from_bits, slice_index, slice_set, to_bits, Float}
 use Rattle.std.specs.Float.{binary32}
+use Rattle.std.proofs.Common.{arith}
 use Rattle.little_endian.specs.Bytes.{le32}
 use Rattle.loops.specs.Fill.{tabulate}
 use Rattle.loops.specs.Loops.{up_to}
@@ -69,3 +70,25 @@ six_is = floats_are 6
 
 abbrev pub flat_is : List ℕ → ℕ → List Float → Bool
 flat_is = floats_are 36
+
+-- ---- six floats one by one
+
+pub each_of_six : (w : List ℕ) (k : ℕ) → six w k ≡ float w k ∷ float w (k + 1) ∷ float w (k + 2) ∷ float w (k + 3) ∷ float w (k + 4) ∷ float w (k + 5) ∷ []
+unfolding floats
+each_of_six w k = let z : k + 0 ≡ k = omega arith in rw z refl
+
+pub six_compared : (w : List ℕ) (k : ℕ) (v : List Float)
+    → six_is w k v ≡ (three_are w k (at v 0) (at v 1) (at v 2) && three_are w (k + 3) (at v 3) (at v 4) (at v 5))
+unfolding floats_are
+six_compared w k v =
+    let z : k + 0 ≡ k = omega arith in
+    let four : k + 3 + 1 ≡ k + 4 = omega arith in
+    let five : k + 3 + 2 ≡ k + 5 = omega arith in
+    let is : ℕ → Bool = λ i. float_is w (k + i) (at v i) in
+    rw (z, four, five) (grouped (float_is w k (at v 0)) (is 1) (is 2) (is 3) (is 4) (is 5))
+  where
+    grouped : (a b c d e f : Bool) → (((((true && a) && b) && c) && d) && e && f) ≡ ((a && b && c) && (d && e && f))
+    grouped true true true d e f = refl
+    grouped true true false d e f = refl
+    grouped true false c d e f = refl
+    grouped false b c d e f = refl

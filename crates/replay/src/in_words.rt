@@ -15,7 +15,7 @@ pub trait InWords: Drop {
     const WORDS: usize;
 
     // What the words from k on say.
-    fn value(w: &Record, k: usize) -> Self
+    fn read(w: &Record, k: usize) -> Self
         requires { k + WORDS ≤ 400 }
         ensures { result ≡ value_of w.now.words k };
 
@@ -34,7 +34,7 @@ impl InWords for f32 {
 
     const WORDS: usize = 1;
 
-    fn value(w: &Record, k: usize) -> f32 {
+    fn read(w: &Record, k: usize) -> f32 {
         little_endian::f32_of(w.words[k])
     }
 
@@ -52,10 +52,10 @@ impl<const N: usize> InWords for [f32; N] {
 
     const WORDS: usize = N;
 
-    fn value(w: &Record, k: usize) -> [f32; N] {
+    fn read(w: &Record, k: usize) -> [f32; N] {
         let mut values = [0.0; N];
         for i in 0..N {
-            values[i] = w.value(k + i);
+            values[i] = w.at(k + i);
         }
         values
     }
@@ -78,11 +78,11 @@ impl InWords for Vec3 {
 
     const WORDS: usize = 3;
 
-    fn value(w: &Record, k: usize) -> Vec3 {
+    fn read(w: &Record, k: usize) -> Vec3 {
         Vec3 {
-            x: w.value(k),
-            y: w.value(k + 1),
-            z: w.value(k + 2),
+            x: w.at(k),
+            y: w.at(k + 1),
+            z: w.at(k + 2),
         }
     }
 
@@ -100,12 +100,12 @@ impl InWords for Quat {
 
     const WORDS: usize = 4;
 
-    fn value(w: &Record, k: usize) -> Quat {
+    fn read(w: &Record, k: usize) -> Quat {
         Quat {
-            x: w.value(k),
-            y: w.value(k + 1),
-            z: w.value(k + 2),
-            w: w.value(k + 3),
+            x: w.at(k),
+            y: w.at(k + 1),
+            z: w.at(k + 2),
+            w: w.at(k + 3),
         }
     }
 
@@ -126,11 +126,11 @@ impl InWords for Mat3 {
 
     const WORDS: usize = 9;
 
-    fn value(w: &Record, k: usize) -> Mat3 {
+    fn read(w: &Record, k: usize) -> Mat3 {
         Mat3 {
-            x: w.value(k),
-            y: w.value(k + 3),
-            z: w.value(k + 6),
+            x: w.at(k),
+            y: w.at(k + 3),
+            z: w.at(k + 6),
         }
     }
 
@@ -148,12 +148,12 @@ impl InWords for Four {
 
     const WORDS: usize = 12;
 
-    fn value(w: &Record, k: usize) -> Four {
+    fn read(w: &Record, k: usize) -> Four {
         Four {
-            a: w.value(k),
-            b: w.value(k + 3),
-            c: w.value(k + 6),
-            d: w.value(k + 9),
+            a: w.at(k),
+            b: w.at(k + 3),
+            c: w.at(k + 6),
+            d: w.at(k + 9),
         }
     }
 

@@ -4,6 +4,7 @@ ghost use Rattle.std.specs.Prelude.{◌≡◌, ℕ, ◌+◌, ◌*◌, ◌≤◌,
 use crate::InWords;
 
 // At most 400 words, and zeros after them.
+#[derive(Drop)]
 pub struct Record {
     pub words: [u32; 400],
 }
@@ -24,11 +25,11 @@ impl Record {
     }
 
     // The value that stands from word k on.
-    pub fn value<T: InWords>(&self, k: usize) -> T
+    pub fn at<T: InWords>(&self, k: usize) -> T
         requires { k + T.WORDS ≤ 400 }
         ensures { result ≡ T.value_of self.now.words k }
     {
-        T::value(self, k)
+        T::read(self, k)
     }
 
     // Whether x is what stands from word k on.

@@ -1,6 +1,8 @@
 // What is counted of the records of a file, and of several files.
 ghost use Rattle.std.specs.Prelude.{◌≡◌, ℕ, ◌+◌, ◌<◌, ◌^◌, Bool};
 
+use std::ops::Add;
+
 // How many records were replayed, and of how many the answer differs from what was stored.
 #[derive(Clone, Copy, PartialEq, Eq, Debug, Drop)]
 pub struct Tally {
@@ -9,7 +11,7 @@ pub struct Tally {
 }
 
 impl Tally {
-    ghost use Rattle.replay.specs.Tallies.{plus, miss};
+    ghost use Rattle.replay.specs.Tallies.{miss};
 
     pub const NONE: Tally = Tally {
         records: 0,
@@ -25,11 +27,17 @@ impl Tally {
         self.records += 1;
         self.differ += u64::from(!agrees);
     }
+}
 
-    // The sums wrap only past any file's records.
-    pub fn plus(self, other: Tally) -> Tally
-        ensures { result ≡ plus self other }
-    {
+// The sums wrap only past any file's records.
+impl Add for Tally {
+    ghost use Rattle.replay.specs.Tallies.{plus};
+
+    type Output = Tally;
+
+    ghost add_gives = { λ t u r. r ≡ plus t u };
+
+    fn add(self, other: Tally) -> Tally {
         Tally {
             records: self.records.wrapping_add(other.records),
             differ: self.differ.wrapping_add(other.differ),

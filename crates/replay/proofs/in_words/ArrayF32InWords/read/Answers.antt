@@ -2,7 +2,7 @@
 use Rattle.std.proofs.Common.{rules}
 use Rattle.loops.specs.Fill.{filled_all}
 use Rattle.replay.specs.Words.{floats}
-use Rattle.replay.proofs.in_words.ArrayF32InWords.value.Goals as goal
+use Rattle.replay.proofs.in_words.ArrayF32InWords.read.Goals as goal
 
 pub returns : goal.returns
 unfolding floats
