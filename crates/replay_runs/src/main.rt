@@ -4,29 +4,71 @@
 // the row functions; the oracle's command `run_vectors` writes it.
 #![tactic(auto)]
 
-ghost use Rattle.std.specs.Prelude.{◌≡◌, ◌+◌, ◌<◌, length, MatchOption};
+ghost use Rattle.std.specs.Prelude.{◌≡◌, ◌+◌, ◌≤◌, length, IfOk, IfSome};
 ghost use Rattle.replay_runs.specs.Entries as spec;
 
 use little_endian::get_u32;
 use replay::Tally;
+use std::alloc::{AllocError, Global};
 use std::{fs, io};
 
 // It only writes, which no contract can say.
 fn main(rt: HostRuntime) -> io::Result<()> {
-    let mut bytes = fs::read(&rt, "runs")?;
-    let t = replay(&mut bytes);
+    let t = replay(rt.alloc(), &fs::read(&rt, "runs")?)?;
     println!(rt; "{} frames, {} end otherwise", t.records, t.differ)
 }
 
-// How many frames were run, and how many of them ended otherwise. The frames are run where they stand.
-fn replay(bytes: &mut [u8]) -> Tally
-    ensures { spec.Counted result.records result.differ }
+// How many frames were run, and how many of them ended otherwise.
+fn replay(alloc: Global, bytes: &[u8]) -> Result<Tally, AllocError>
+    ensures { IfOk result (λ t. spec.Counted t.records t.differ) }
 {
     let mut tally = Tally::NONE;
     let mut rest = bytes;
-    while let Some((entry, others)) = next(rest) {
-        tally.count(entry.is_as_stored());
+    while let Some((entry, others)) = first(rest) {
+        let mut frame = entry.frame.to_vec(alloc)?;
+        tally.count(as_stored(&mut frame, entry.number, entry.place, entry.after));
         rest = others;
     }
-    tally
+    Ok(tally)
+}
+
+// A stored frame, the number and the place that check and run must return for it, and the bytes that run must leave.
+#[derive(Clone, Copy)]
+struct Entry<'a> {
+    frame: &'a [u8],
+    number: u32,
+    place: u32,
+    after: &'a [u8],
+}
+
+// The entry that the bytes begin with, and the bytes behind it: none where they end before it does.
+fn first(bytes: &[u8]) -> Option<(Entry<'_>, &[u8])>
+    ensures { IfSome result (λ p. 12 + length p.1.now ≤ length bytes.now) }
+{
+    let (head, rest) = bytes.split_first_chunk::<12>()?;
+    let n = get_u32(head, 0) as usize;
+    let (frame, rest) = rest.split_at_checked(n)?;
+    let (after, rest) = rest.split_at_checked(n)?;
+    let entry = Entry {
+        frame,
+        number: get_u32(head, 4),
+        place: get_u32(head, 8),
+        after,
+    };
+    Some((entry, rest))
+}
+
+// Whether check and run return this number and place for the frame, and run leaves these bytes.
+fn as_stored(frame: &mut [u8], number: u32, place: u32, after: &[u8]) -> bool
+    ensures { result ≡ spec.as_stored frame.old number place after.now }
+{
+    let checked = run::check(frame);
+    let returned = run::run(frame);
+    is(checked, number, place) & is(returned, number, place) & (&*frame == after)
+}
+
+fn is(a: records::Answer, number: u32, place: u32) -> bool
+    ensures { result ≡ spec.is a number place }
+{
+    (a.number == number) & (a.place == u64::from(place))
 }
