@@ -29,7 +29,7 @@ quat w k = record { x = float w k; y = float w (k + 1); z = float w (k + 2); w =
 abbrev pub mat3 : List ℕ → ℕ → Mat3
 mat3 w k = record { x = vec3 w k; y = vec3 w (k + 3); z = vec3 w (k + 6) }
 
-abbrev pub four : List ℕ → ℕ → Four
+abbrev pub four : List ℕ → ℕ → Four Vec3
 four w k = record { a = vec3 w k; b = vec3 w (k + 3); c = vec3 w (k + 6); d = vec3 w (k + 9) }
 
 -- so many floats
@@ -59,7 +59,7 @@ quat_is w k q = three_are w k q.x q.y q.z && float_is w (k + 3) q.w
 abbrev pub mat3_is : List ℕ → ℕ → Mat3 → Bool
 mat3_is w k m = vec3_is w k m.x && vec3_is w (k + 3) m.y && vec3_is w (k + 6) m.z
 
-abbrev pub four_are : List ℕ → ℕ → Four → Bool
+abbrev pub four_are : List ℕ → ℕ → Four Vec3 → Bool
 four_are w k v = vec3_is w k v.a && vec3_is w (k + 3) v.b && vec3_is w (k + 6) v.c && vec3_is w (k + 9) v.d
 
 unfoldable pub floats_are : ℕ → List ℕ → ℕ → List Float → Bool

@@ -139,7 +139,7 @@ impl InWords for Mat3 {
     }
 }
 
-impl InWords for Four {
+impl InWords for Four<Vec3> {
     ghost WORDS = { 12 };
 
     ghost value_of = { spec.four };
@@ -148,7 +148,7 @@ impl InWords for Four {
 
     const WORDS: usize = 12;
 
-    fn read(w: &Record, k: usize) -> Four {
+    fn read(w: &Record, k: usize) -> Four<Vec3> {
         Four {
             a: w.at(k),
             b: w.at(k + 3),

@@ -5,7 +5,7 @@ ghost use Rattle.replay_arith.specs.OfMatrix as spec;
 use crate::Replay;
 use std::fs::Files;
 use std::io::Print;
-use vector::{matrix, quaternion};
+use vector::{Mat3, Quat, Vec3};
 
 // Each with the words of its records, and whether the function's answer to a record's first words is what stands after them.
 pub(crate) fn all<R: Files + Print + Alloc>(replay: &mut Replay<R>)
@@ -14,56 +14,56 @@ pub(crate) fn all<R: Files + Print + Alloc>(replay: &mut Replay<R>)
     replay.file(
         b"mul_vec.bin",
         15,
-        |w| w.holds(12, matrix::mul_vec(w.at(0), w.at(9))),
+        |w| w.holds(12, w.at::<Mat3>(0) * w.at::<Vec3>(9)),
     );
     replay.file(
         b"mul_mat.bin",
         27,
-        |w| w.holds(18, matrix::mul_mat(w.at(0), w.at(9))),
+        |w| w.holds(18, w.at::<Mat3>(0) * w.at::<Mat3>(9)),
     );
     replay.file(
         b"add_mat.bin",
         27,
-        |w| w.holds(18, matrix::add_mat(w.at(0), w.at(9))),
+        |w| w.holds(18, w.at::<Mat3>(0) + w.at::<Mat3>(9)),
     );
     replay.file(
         b"sub_mat.bin",
         27,
-        |w| w.holds(18, matrix::sub_mat(w.at(0), w.at(9))),
+        |w| w.holds(18, w.at::<Mat3>(0) - w.at::<Mat3>(9)),
     );
     replay.file(
         b"scale_mat.bin",
         19,
-        |w| w.holds(10, matrix::scale_mat(w.at(0), w.at(9))),
+        |w| w.holds(10, w.at::<Mat3>(0) * w.at::<f32>(9)),
     );
     replay.file(
         b"transpose.bin",
         18,
-        |w| w.holds(9, matrix::transpose(w.at(0))),
+        |w| w.holds(9, w.at::<Mat3>(0).transpose()),
     );
     replay.file(
         b"determinant.bin",
         10,
-        |w| w.holds(9, matrix::determinant(w.at(0))),
+        |w| w.holds(9, w.at::<Mat3>(0).determinant()),
     );
     replay.file(
         b"product.bin",
         12,
-        |w| w.holds(8, quaternion::product(w.at(0), w.at(4))),
+        |w| w.holds(8, w.at::<Quat>(0) * w.at::<Quat>(4)),
     );
     replay.file(
         b"normalise.bin",
         8,
-        |w| w.holds(4, quaternion::normalise(w.at(0))),
+        |w| w.holds(4, w.at::<Quat>(0).normalise()),
     );
     replay.file(
         b"to_matrix.bin",
         13,
-        |w| w.holds(4, quaternion::to_matrix(w.at(0))),
+        |w| w.holds(4, w.at::<Quat>(0).to_matrix()),
     );
     replay.file(
         b"from_axis_angle.bin",
         8,
-        |w| w.holds(4, quaternion::from_axis_angle(w.at(0), w.at(3))),
+        |w| w.holds(4, Quat::from_axis_angle(w.at(0), w.at(3))),
     );
 }

@@ -13,22 +13,22 @@ pub(crate) fn all<R: Files + Print + Alloc>(replay: &mut Replay<R>)
     replay.file(
         b"add6.bin",
         18,
-        |w| w.holds(12, strain::add6(&w.at(0), &w.at(6))),
+        |w| w.holds(12, strain::add::<6>(&w.at(0), &w.at(6))),
     );
     replay.file(
         b"sub6.bin",
         18,
-        |w| w.holds(12, strain::sub6(&w.at(0), &w.at(6))),
+        |w| w.holds(12, strain::sub::<6>(&w.at(0), &w.at(6))),
     );
     replay.file(
         b"scale6.bin",
         13,
-        |w| w.holds(7, strain::scale6(&w.at(0), w.at(6))),
+        |w| w.holds(7, strain::scale::<6>(&w.at(0), w.at(6))),
     );
     replay.file(
         b"component_mul6.bin",
         18,
-        |w| w.holds(12, strain::component_mul6(&w.at(0), &w.at(6))),
+        |w| w.holds(12, strain::component_mul::<6>(&w.at(0), &w.at(6))),
     );
     replay.file(
         b"dot6.bin",
@@ -48,12 +48,12 @@ pub(crate) fn all<R: Files + Print + Alloc>(replay: &mut Replay<R>)
     replay.file(
         b"add36.bin",
         108,
-        |w| w.holds(72, strain::add36(&w.at(0), &w.at(36))),
+        |w| w.holds(72, strain::add::<36>(&w.at(0), &w.at(36))),
     );
     replay.file(
         b"scale36.bin",
         73,
-        |w| w.holds(37, strain::scale36(&w.at(0), w.at(36))),
+        |w| w.holds(37, strain::scale::<36>(&w.at(0), w.at(36))),
     );
     replay.file(
         b"ger.bin",

@@ -6,6 +6,7 @@ ghost use Rattle.std.specs.Prelude.{◌≡◌, ◌+◌, ◌*◌, ◌<◌, ◌≤
 ghost use Rattle.replay_frames.specs.Entries as spec;
 
 use little_endian::{get_u16, get_u32, put_u16, put_u32};
+use records::Answer;
 use replay::Tally;
 use std::{fs, io};
 
@@ -68,15 +69,18 @@ fn answered(frame: &[u8], len: u16, number: u16, place: u16) -> bool
     ensures { result ≡ spec.answered frame.now len number place }
 {
     match frame.split_at_checked(usize::from(len)) {
-        Some((frame, _)) => same(frame::check(frame), number, place),
+        Some((frame, _)) => same(frame::check(frame).into(), number, place),
         None => false,
     }
 }
 
-fn same(a: records::Answer, number: u16, place: u16) -> bool
+fn same(a: Answer, number: u16, place: u16) -> bool
     ensures { result ≡ spec.same a number place }
 {
-    (a.number == u32::from(number)) & (a.place == u64::from(place))
+    a == Answer {
+        number: u32::from(number),
+        place: u64::from(place),
+    }
 }
 
 // The number n in `width` bytes, 2 or 4, at `at`, where they fit; nothing at another width.

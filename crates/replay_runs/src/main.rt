@@ -8,6 +8,7 @@ ghost use Rattle.std.specs.Prelude.{◌≡◌, ◌+◌, ◌≤◌, length, IfOk,
 ghost use Rattle.replay_runs.specs.Entries as spec;
 
 use little_endian::get_u32;
+use records::Answer;
 use replay::Tally;
 use std::alloc::{AllocError, Global};
 use std::{fs, io};
@@ -62,13 +63,16 @@ fn first(bytes: &[u8]) -> Option<(Entry<'_>, &[u8])>
 fn as_stored(frame: &mut [u8], number: u32, place: u32, after: &[u8]) -> bool
     ensures { result ≡ spec.as_stored frame.old number place after.now }
 {
-    let checked = run::check(frame);
-    let returned = run::run(frame);
+    let checked = run::check(frame).into();
+    let returned = run::run(frame).into();
     is(checked, number, place) & is(returned, number, place) & (&*frame == after)
 }
 
-fn is(a: records::Answer, number: u32, place: u32) -> bool
+fn is(a: Answer, number: u32, place: u32) -> bool
     ensures { result ≡ spec.is a number place }
 {
-    (a.number == number) & (a.place == u64::from(place))
+    a == Answer {
+        number,
+        place: u64::from(place),
+    }
 }
