@@ -1,21 +1,20 @@
 -- Laws of a frame whose velocities are set apart: its rows are where they are, and fetching and taking apart is fetching and taking in it. Assumes nothing.
 use Prim.Native.Nat.{ℕ, zero, suc, ◌+◌, ◌*◌, ◌≤◌, ◌<◌}
 use mathlib.Core.Path.{◌≡◌, refl, sym, ap, ◌∙◌, subst}
-use mathlib.Core.Bool.{Bool, true, false, cond, not}
+use mathlib.Core.Bool.{Bool, true, false, cond}
 use mathlib.Core.Logic.{◌⊎◌, inl, inr}
 use mathlib.Core.List.{List, [], ◌∷◌, ◌++◌}
 use native.Mathlib.Omega.{arith}
 use native.Mathlib.Nat.{add-zero}
 use native.Mathlib.Numerals.{add-one}
-use lib.Dec.{T, ltb, eqb}
-use lib.Ieee.{Float, binary32, fits, of_bits, nan}
+use lib.Dec.{ltb}
+use lib.Ieee.{binary32, of_bits}
 use lib.Ieee.Fits.{sub-fits, nan-fits}
 use lib.Ieee.Bits.{of_bits-fits}
 use lib.ListN.{length, replicate, set, take, drop, take-append-drop, length-set}
 use lib.Seq.{sets, set-set, set_comm, length-take-le, take_at, drop_at, drop-drop, get_or-set_same, get_or-set_other}
 use borrow.Author.Count.{below_more}
-use borrow.Author.Tests.{ltb-true, ltb-false, lt-ltb, le-ltb}
-use Rattle.real.specs.Float.{at}
+use borrow.Author.Tests.{ltb-true, ltb-false}
 use Rattle.little_endian.specs.Bytes.{le32, f32_at, f32_bytes, part}
 use Rattle.little_endian.proofs.Parts.{Bytes, le32_part, length_part}
 use Rattle.little_endian.proofs.Patch.{sets-left, sets-middle, sets-comm, f32_back, Beside, le32_beside}
@@ -23,7 +22,6 @@ use Rattle.vector.specs.declared.Vec3.{Vec3}
 use Rattle.vector.specs.declared.Four.{Four}
 use Rattle.vector.specs.Vector.{sub, zero_vector}
 use Rattle.places.specs.Places.{Ids}
-use Rattle.rows.specs.Row.{nobody}
 use Rattle.floats.specs.Fields.{vec3_at, put_f32, put_vec3}
 use Rattle.floats.proofs.Lengths.{length-put_f32, length-put_vec3}
 use Rattle.floats.proofs.Same.{Finite3, put_vec3_same, vec3_beside}
@@ -342,15 +340,9 @@ gathered_more s v v' i w h a f e g =
 
 -- and the one that puts them back
 module _ (v : List Vec3) (s₀ : List ℕ) (i : ℕ) (s : List ℕ) (e : s ≡ moved i v s₀) where
-  pub scattered_long : length s ≡ length s₀
-  scattered_long = ap length e ∙ length_moved i v s₀
-
   pub scattered_more : (s' : List ℕ) (w : Vec3) → w ≡ vec_of v i → s' ≡ put_vec3 s (velocity_at i) w → s' ≡ moved (i + 1) v s₀
   unfolding moved
   scattered_more s' w f g = g ∙ (λ m. put_vec3 (e m) (velocity_at i) (f m)) ∙ ap (λ (k : ℕ). moved k v s₀) (sym (add-one i))
-
-  pub scattered_all : (n : ℕ) → i ≤ n → n ≤ i → s ≡ moved n v s₀
-  scattered_all n h k = let q : i ≡ n = omega arith in e ∙ ap (λ (j : ℕ). moved j v s₀) q
 
 pub scattered_none : (v : List Vec3) (s : List ℕ) → s ≡ moved 0 v s
 unfolding moved

@@ -9,7 +9,7 @@ use records::layout;
 use vector::{Four, Vec3};
 
 // The velocities of the first `count` points of a frame.
-#[derive(Clone, Copy)]
+#[derive(Drop)]
 pub struct Velocities {
     pub count: usize,
     pub all: [Vec3; 4096],

@@ -87,7 +87,18 @@ constraint_is b = go (eqb (le16 b 4) 3) (eqb (le16 b 4) 4)
     go false true = refl
     go false false = refl
 
-module _ {b : List ℕ} {kind : RowKind} (e : kind ≡ row_kind (le16 b 4)) where
+-- what is put and what is lost, of a row that the code computed and of the rule's
+of_state : {T : Type 0} (b : List ℕ) (put : T → List ℕ → List ℕ) {d q : Solved T} {ys after : List ℕ} {loss : Four Vec3} → d ≡ q → ys ≡ put d.state b
+    → (put q.state b ≡ after) × (q.loss ≡ loss) → (ys ≡ after) × (d.loss ≡ loss)
+of_state {T} b put d p w = (p ∙ ap (λ (y : Solved T). put y.state b) d ∙ w.0, ap (λ (y : Solved T). y.loss) d ∙ w.1)
+
+abbrev put_impulse : SoftScalarConstraint → List ℕ → List ℕ
+put_impulse r y = put_f32 y at.scalar_impulse r.response.impulse
+
+abbrev put_solved : Impulses → List ℕ → List ℕ
+put_solved l y = put_floats 6 y at.elastic_strain_impulse l.strain
+
+module _ (b : List ℕ) {kind : RowKind} (e : kind ≡ row_kind (le16 b 4)) where
   is : (k : RowKind) → kind ≡ k → by_kind k b ≡ constraint_of b
   is k h = ap (λ (q : RowKind). by_kind q b) (sym h ∙ e) ∙ constraint_is b
 
@@ -118,17 +129,6 @@ module _ {b : List ℕ} {kind : RowKind} (e : kind ≡ row_kind (le16 b 4)) wher
       unfolding update_row update_of strained_of put_constraint
       update_renewed t d p = renewed_is least held b found tested t d p ∙ ap updated (is NeoHookean h)
 
-  -- what is put and what is lost, of a row that the code computed and of the rule's
-  of_state : {T : Type 0} (put : T → List ℕ → List ℕ) {d q : Solved T} {ys after : List ℕ} {loss : Four Vec3} → d ≡ q → ys ≡ put d.state b
-      → (put q.state b ≡ after) × (q.loss ≡ loss) → (ys ≡ after) × (d.loss ≡ loss)
-  of_state {T} put d p w = (p ∙ ap (λ (y : Solved T). put y.state b) d ∙ w.0, ap (λ (y : Solved T). y.loss) d ∙ w.1)
-
-  abbrev put_impulse : SoftScalarConstraint → List ℕ → List ℕ
-  put_impulse r y = put_f32 y at.scalar_impulse r.response.impulse
-
-  abbrev put_solved : Impulses → List ℕ → List ℕ
-  put_solved l y = put_floats 6 y at.elastic_strain_impulse l.strain
-
   module _ (coeff : Float) where
     warmed : (q : Constraint) → q ≡ constraint_of b → (warm_constraint (warmstart_of q coeff).state b ≡ warm_row coeff b) × ((warmstart_of q coeff).loss ≡ warm_loss coeff b)
     unfolding warm_row warm_loss
@@ -137,17 +137,17 @@ module _ {b : List ℕ} {kind : RowKind} (e : kind ≡ row_kind (le16 b 4)) wher
     pub warm_scalar : kind ≡ Scalar → {d : Solved SoftScalarConstraint} {ys : List ℕ} → d ≡ s.warmstart (scalar_of b) coeff → ys ≡ put_impulse d.state b
         → (ys ≡ warm_row coeff b) × (d.loss ≡ warm_loss coeff b)
     unfolding warmstart_of warm_constraint
-    warm_scalar h d p = of_state put_impulse d p (warmed (scalar (scalar_of b)) (is Scalar h))
+    warm_scalar h d p = of_state b put_impulse d p (warmed (scalar (scalar_of b)) (is Scalar h))
 
     pub warm_corotational : kind ≡ Corotational → {d : Solved Impulses} {ys : List ℕ} → d ≡ c.warmstart (corotational_of b) coeff → ys ≡ put_impulses d.state b
         → (ys ≡ warm_row coeff b) × (d.loss ≡ warm_loss coeff b)
     unfolding warmstart_of warm_constraint
-    warm_corotational h d p = of_state put_impulses d p (warmed (corotational (corotational_of b)) (is Corotational h))
+    warm_corotational h d p = of_state b put_impulses d p (warmed (corotational (corotational_of b)) (is Corotational h))
 
     pub warm_neo : kind ≡ NeoHookean → {d : Solved Impulses} {ys : List ℕ} → d ≡ n.warmstart (neo_hookean_of b) coeff → ys ≡ put_impulses d.state b
         → (ys ≡ warm_row coeff b) × (d.loss ≡ warm_loss coeff b)
     unfolding warmstart_of warm_constraint
-    warm_neo h d p = of_state put_impulses d p (warmed (neo_hookean (neo_hookean_of b)) (is NeoHookean h))
+    warm_neo h d p = of_state b put_impulses d p (warmed (neo_hookean (neo_hookean_of b)) (is NeoHookean h))
 
   module _ (vel : Holds) where
     solved : (q : Constraint) → q ≡ constraint_of b → (solve_constraint (solve_of q vel).state b ≡ solve_row vel b) × ((solve_of q vel).loss ≡ solve_loss vel b)
@@ -157,14 +157,14 @@ module _ {b : List ℕ} {kind : RowKind} (e : kind ≡ row_kind (le16 b 4)) wher
     pub solve_scalar : kind ≡ Scalar → {d : Solved SoftScalarConstraint} {ys : List ℕ} → d ≡ s.solve (scalar_of b) vel → ys ≡ put_impulse d.state b
         → (ys ≡ solve_row vel b) × (d.loss ≡ solve_loss vel b)
     unfolding solve_of solve_constraint
-    solve_scalar h d p = of_state put_impulse d p (solved (scalar (scalar_of b)) (is Scalar h))
+    solve_scalar h d p = of_state b put_impulse d p (solved (scalar (scalar_of b)) (is Scalar h))
 
     pub solve_corotational : kind ≡ Corotational → {d : Solved Impulses} {ys : List ℕ} → d ≡ c.solve (corotational_of b) vel → ys ≡ put_impulses d.state b
         → (ys ≡ solve_row vel b) × (d.loss ≡ solve_loss vel b)
     unfolding solve_of solve_constraint
-    solve_corotational h d p = of_state put_impulses d p (solved (corotational (corotational_of b)) (is Corotational h))
+    solve_corotational h d p = of_state b put_impulses d p (solved (corotational (corotational_of b)) (is Corotational h))
 
     pub solve_neo : kind ≡ NeoHookean → {d : Solved Impulses} {ys : List ℕ} → d ≡ n.solve (neo_hookean_of b) vel → ys ≡ put_solved d.state b
         → (ys ≡ solve_row vel b) × (d.loss ≡ solve_loss vel b)
     unfolding solve_of solve_constraint
-    solve_neo h d p = of_state put_solved d p (solved (neo_hookean (neo_hookean_of b)) (is NeoHookean h))
+    solve_neo h d p = of_state b put_solved d p (solved (neo_hookean (neo_hookean_of b)) (is NeoHookean h))
