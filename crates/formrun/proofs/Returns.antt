@@ -1,10 +1,9 @@
 -- What each return of `answer` writes is the output. Assumes nothing.
-use mathlib.Core.Path.{◌≡◌, refl}
-use mathlib.Core.List.{List}
-use Prim.Native.Nat.{ℕ, ◌≤◌, ◌<◌}
-use lib.ListN.{length}
-use borrow.Author.Tests.{lt-ltb, le-ltb, eq-eqb, ne_eqb}
-use Rattle.records.specs.declared.Answer.{Answer}
+use Rattle.std.specs.Prelude.{◌≡◌, ℕ, ◌<◌, ◌≤◌, List, length, Result, Ok, Err}
+use Rattle.std.proofs.Common.{refl, lt-ltb, le-ltb, ne_eqb}
+use Rattle.records.specs.declared.Refused.{Refused}
+use Rattle.records.specs.Answers.{number_of, answer_of}
+use Rattle.records.proofs.Firsts.{never_0}
 use Rattle.frame.specs.Check.{check_of}
 use Rattle.stored.specs.Run.{leaves}
 use Rattle.formrun.specs.Output.{output_of, too_long, refusal}
@@ -14,11 +13,11 @@ module _ (s : List ℕ) where
   unfolding output_of
   longer long = rw (lt-ltb 65536 (length s) long) refl
 
-  module _ (a : Answer) where
-    pub accepted : (p : List ℕ) → length s ≤ 65536 → a ≡ check_of s → p ≡ leaves s → a.number ≡ 0 → p ≡ output_of s
+  module _ (o : Result Unit Refused) (short : length s ≤ 65536) (e : answer_of o ≡ check_of s) where
+    pub accepted : (p : List ℕ) → p ≡ leaves s → (u : Unit) → o ≡ Ok u → p ≡ output_of s
     unfolding output_of
-    accepted p short e l ok = rw (le-ltb 65536 (length s) short, ← e, eq-eqb a.number 0 ok) l
+    accepted p l u z = rw (le-ltb 65536 (length s) short, ← e, z) l
 
-    pub refused : length s ≤ 65536 → a ≡ check_of s → (a.number ≡ 0 → ⊥) → refusal a.number a.place ≡ output_of s
+    pub refused : (x : Refused) → o ≡ Err x → refusal (number_of x.why) x.place ≡ output_of s
     unfolding output_of
-    refused short e bad = rw (le-ltb 65536 (length s) short, ← e, ne_eqb a.number 0 bad) refl
+    refused x z = rw (le-ltb 65536 (length s) short, ← e, z, ne_eqb (number_of x.why) 0 (never_0 x.why)) refl

@@ -33,11 +33,13 @@ fn answer<W: Write>(frame: &mut [u8], output: &mut W) -> io::Result<()>
     if MOST < frame.len() {
         return output.write_all(b"too long\n");
     }
-    let a = run::run(frame);
-    if a.number == 0 {
-        output.write_all(frame)
-    } else {
-        refuse(output, u64::from(a.number), a.place)
+    match run::run(frame) {
+        Ok(()) => output.write_all(frame),
+        Err(refused) => refuse(
+            output,
+            u64::from(refused.why.number()),
+            refused.place as u64,
+        ),
     }
 }
 

@@ -6,7 +6,7 @@ use mathlib.Core.List.{List, [], ◌∷◌, ◌++◌}
 use native.Mathlib.Omega.{arith}
 use lib.ListN.{length, length-append}
 use borrow.Author.Tests.{eq-eqb, ne_eqb}
-use Rattle.std.specs.Prelude.{Result, Ok, Err}
+use Rattle.std.specs.Prelude.{Bool, true, cond, Float, refl, Result, Ok, Err, Some, None}
 use Rattle.little_endian.specs.Bytes.{le16, le32}
 use Rattle.records.specs.declared.Answer.{Answer}
 use Rattle.records.specs.declared.Due.TheVariants.{Point, Row}
@@ -15,23 +15,23 @@ use Rattle.records.specs.Answers.{number_of, answer_of}
 use Rattle.records.proofs.Firsts.{first_passed, never_0}
 use Rattle.records.specs.Records.{flatten}
 use Rattle.records.proofs.ByKind.{Kind, a_scalar, a_corotational, a_neo_hookean}
-use Rattle.frame.specs.Frames.{count_n, count_r, resweeps_of, head, points, rows}
+use Rattle.frame.specs.Frames.{count_n, count_r, mode_of, resweeps_of, head, points, rows}
 use Rattle.frame.specs.Check.{frame_tests, check_of}
 use Rattle.acceptance.specs.Whole.{Good, Chain, Whole}
 use Rattle.acceptance.proofs.Parsing.{good_kind}
 use Rattle.acceptance.proofs.Wholes.{whole, within_range, head_length, point_length}
 use Rattle.relisting.specs.Steps.{run}
-use Rattle.stored.specs.Points.{Points, resweep_step}
-use Rattle.stored.specs.Run.{lay, swept, run_of, leaves}
+use Rattle.stored.specs.Points.{Points, main_step, resweep_step}
+use Rattle.stored.specs.Run.{updates, warms, warm_coefficient, least_strain, lay, swept, run_of, leaves}
 use Rattle.points.specs.InFrame.{Sized}
 use Rattle.row.specs.Widths.{row_length}
 use Rattle.floats.proofs.Same.{Finite3}
 use Rattle.points.specs.Apart.{velocity_at}
 use Rattle.run.proofs.Calm.{points_finite}
 use Rattle.run.proofs.Written.{row_written}
-use Rattle.sweep.specs.Laid.{Calm, RowSized, RowsSized, step_of, Laid, Ready, Ran}
-use Rattle.sweep.specs.declared.Turn.{Turn}
-use Rattle.run.specs.Start.{main_turn}
+use Rattle.sweep.specs.Laid.{Calm, RowSized, RowsSized, phases, Laid, Ready, Ran}
+use Rattle.sweep.specs.declared.Phases.{Phases}
+use Rattle.run.specs.Start.{main_phases}
 
 -- ---- sizes
 
@@ -70,6 +70,14 @@ laid_of s w = record {
   points = points_sized 0 (points s) w.good_points;
 }
 
+-- a phase that is on with its number is that phase
+both_phases : (n : ℕ) (u w : Bool) (coeff least : Float)
+    → phases n (record { update = cond u (Some least) None; warm = cond w (Some coeff) None }) ≡ main_step n u w coeff least
+both_phases n true true coeff least = refl
+both_phases n true false coeff least = refl
+both_phases n false true coeff least = refl
+both_phases n false false coeff least = refl
+
 module _ (s : List ℕ) (o : Result Unit Refused) (e : answer_of o ≡ check_of s) where
   -- number 0 is given to accepted frames alone
   module _ {u : Unit} (z : o ≡ Ok u) where
@@ -102,13 +110,15 @@ module _ (s : List ℕ) (o : Result Unit Refused) (e : answer_of o ≡ check_of 
         subst (λ (l : List ℕ). Finite3 l (velocity_at i)) (sym frame.bytes)
         (points_finite 0 (points s) (head s) (flatten (rows s)) 26 i (head_length (head s) frame.good_head) frame.good_points (omega (arith, v.as_many_points, en)))
 
-    pub run_is : (s' : List ℕ) (t : Turn) (k n r : ℕ) → t ≡ main_turn s → k ≡ resweeps_of s → n ≡ count_n s → r ≡ count_r s → Ran t k n r s s' → s' ≡ leaves s
-    unfolding leaves run_of swept main_turn
-    run_is s' t k n r et ek en er ran =
+    pub run_is : (s' : List ℕ) (p : Phases) (k n r : ℕ) → p ≡ main_phases s → k ≡ resweeps_of s → n ≡ count_n s → r ≡ count_r s → Ran p k n r s s' → s' ≡ leaves s
+    unfolding leaves run_of swept main_phases
+    run_is s' p k n r ep ek en er ran =
         let v = within_range s frame in
         let l = ran (head s) (rows s, points s) (laid_of s frame) (v.as_many_points ∙ sym en) (v.as_many_rows ∙ sym er) in
         l.bytes
-        ∙ (λ i. lay (head s) (run (step_of (en i) (et i)) (resweep_step (en i)) (ek i) (rows s) (points s)))
+        ∙ (λ i. lay (head s) (run (phases (en i) (ep i)) (resweep_step (en i)) (ek i) (rows s) (points s)))
+        ∙ ap (λ (f : List ℕ → Points → List ℕ × Points). lay (head s) (run f (resweep_step (count_n s)) (resweeps_of s) (rows s) (points s)))
+          (both_phases (count_n s) (updates (mode_of s)) (warms (mode_of s)) (warm_coefficient s) (least_strain s))
         ∙ simp (eq-eqb (check_of s).number 0 number)
 
   pub not_run : (x : Refused) → o ≡ Err x → s ≡ leaves s
@@ -116,8 +126,3 @@ module _ (s : List ℕ) (o : Result Unit Refused) (e : answer_of o ≡ check_of 
   not_run x z =
       let n : number_of x.why ≡ (check_of s).number = ap (λ (y : Result Unit Refused). (answer_of y).number) (sym z) ∙ ap (λ (y : Answer). y.number) e in
       simp (ne_eqb (check_of s).number 0 (λ q. never_0 x.why (n ∙ q)))
-
--- the main sweep is no resweep
-pub main_first : (s : List ℕ) (t : Turn) → t ≡ main_turn s → t.resweep ≡ false
-unfolding main_turn
-main_first s t e = ap (λ (x : Turn). x.resweep) e

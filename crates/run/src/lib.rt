@@ -5,22 +5,23 @@ ghost use Rattle.std.specs.Prelude.{◌≡◌, ℕ, ◌≤◌, length};
 ghost use Rattle.records.specs.Answers.{answer_of};
 ghost use Rattle.frame.specs.Check.{check_of};
 ghost use Rattle.stored.specs.Run.{answers, leaves};
-ghost use Rattle.run.specs.Start.{main_turn};
+ghost use Rattle.run.specs.Start.{main_phases};
 
 use records::{Refused, layout};
-use sweep::Turn;
+use sweep::Phases;
 
-fn main_turn(s: &[u8]) -> Turn
+// The phases that the head's mode asks for, with their numbers.
+#[tactic(auto, unfolding(crate::specs::Start::main_phases))]
+fn main_phases(s: &[u8]) -> Phases
     requires { 26 ≤ length s.now }
-    ensures { result ≡ main_turn s.now }
+    ensures { result ≡ main_phases s.now }
 {
     let mode = little_endian::get_u16(s, layout::HEAD_MODE);
-    Turn {
-        resweep: false,
-        update: (mode == 1) | (mode == 3),
-        warm: (mode == 2) | (mode == 3),
-        coeff: little_endian::get_f32(s, layout::HEAD_WARM),
-        least: little_endian::get_f32(s, layout::HEAD_LEAST),
+    let coeff = little_endian::get_f32(s, layout::HEAD_WARM);
+    let least = little_endian::get_f32(s, layout::HEAD_LEAST);
+    Phases {
+        update: ((mode == 1) | (mode == 3)).then_some(least),
+        warm: ((mode == 2) | (mode == 3)).then_some(coeff),
     }
 }
 
@@ -39,7 +40,7 @@ pub fn run(s: &mut [u8]) -> Result<(), Refused>
     let n = little_endian::get_u32(s, layout::HEAD_POINTS) as usize;
     let r = little_endian::get_u32(s, layout::HEAD_ROWS) as usize;
     let k = little_endian::get_u16(s, layout::HEAD_RESWEEPS);
-    let t = main_turn(s);
-    sweep::sweep_all(t, k, n, r, s);
+    let p = main_phases(s);
+    sweep::sweep_all(p, k, n, r, s);
     Ok(())
 }

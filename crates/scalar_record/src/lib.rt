@@ -98,7 +98,7 @@ fn put_scalar(b: &mut [u8], r: SoftScalarConstraint)
 pub fn begun(b: Bytes, held: Holds) -> SoftScalarConstraint
     ensures { result ≡ s.begin (scalar_of b.entry.bytes.now) held }
 {
-    scalar::begin(row_of(b), held)
+    row_of(b).begin(held)
 }
 
 pub fn put_begun(b: &mut [u8], r: SoftScalarConstraint, least: f32)
@@ -106,19 +106,19 @@ pub fn put_begun(b: &mut [u8], r: SoftScalarConstraint, least: f32)
     ensures { (b.new ≡ put_flag (put_scalar r b.old) at.row_strained (s.is_strained r least)) × Kept b.old b.new }
 {
     put_scalar(b, r);
-    put_flag(b, layout::ROW_STRAINED, scalar::is_strained(r, least));
+    put_flag(b, layout::ROW_STRAINED, r.is_strained(least));
 }
 
 pub fn warmed(b: Bytes, coeff: f32) -> Solved<SoftScalarConstraint>
     ensures { result ≡ s.warmstart (scalar_of b.entry.bytes.now) coeff }
 {
-    scalar::warmstart(row_of(b), coeff)
+    row_of(b).warmstart(coeff)
 }
 
 pub fn solved(b: Bytes, vel: Holds) -> Solved<SoftScalarConstraint>
     ensures { result ≡ s.solve (scalar_of b.entry.bytes.now) vel }
 {
-    scalar::solve(row_of(b), vel)
+    row_of(b).solve(vel)
 }
 
 // What a warm start and a solve assign.
