@@ -60,14 +60,7 @@ pub fn posed_anew(b: ElasticBytes, pos: Four<Vec3>, f: Mat3) -> Pose
     cell::update::posed(&caps, warm, pos, f)
 }
 
-#[tactic(auto, unfolding(
-    cell::specs::Cell::update_pose,
-    stored::specs::Read::cell_of,
-    stored::specs::Read::pose_of,
-    crate::specs::Anew::pos_anew,
-    crate::specs::Anew::deformation_anew,
-    crate::specs::Anew::posed_anew,
-))]
+#[tactic(auto, unfolding(cell::specs::Cell::update_pose, stored::specs::Read::cell_of, stored::specs::Read::pose_of, crate::specs::Anew::pos_anew, crate::specs::Anew::deformation_anew, crate::specs::Anew::posed_anew,))]
 pub fn pose_anew(b: ElasticBytes, held: Holds) -> Pose
     ensures { result ≡ cell.update_pose (cell_of b.entry.bytes.now) (pose_of b.entry.bytes.now) held }
 {

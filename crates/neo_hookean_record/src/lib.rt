@@ -55,12 +55,7 @@ pub struct Update {
     pub dt_grad: [f32; 6],
 }
 
-#[tactic(auto, unfolding(
-    crate::specs::Parts::update_anew,
-    crate::specs::Parts::energy_anew,
-    crate::specs::Parts::dt_grad_anew,
-    stored::specs::Read::material_of,
-))]
+#[tactic(auto, unfolding(crate::specs::Parts::update_anew, crate::specs::Parts::energy_anew, crate::specs::Parts::dt_grad_anew, stored::specs::Read::material_of,))]
 pub fn updated(b: Bytes, held: Holds) -> Update
     ensures { result ≡ spec.update_anew held b.entry.bytes.now }
 {
@@ -96,7 +91,9 @@ fn put_block(b: &mut [u8], k: Block)
     requires { 678 ≤ length b.old }
     ensures { (b.new ≡ spec.put_anew k b.old) × Kept b.old b.new }
 {
-    k.stiffness.stiffness_strain.put(b, layout::NEO_STIFFNESS_STRAIN);
+    k.stiffness
+        .stiffness_strain
+        .put(b, layout::NEO_STIFFNESS_STRAIN);
     k.stiffness.m.put(b, layout::NEO_M);
     k.compliance.inv_a.put(b, layout::ELASTIC_INV_A);
 }
@@ -130,13 +127,7 @@ pub fn put_renewed(b: &mut [u8], u: Update, k: Block, least: f32)
 
 // ---- warm start
 
-#[tactic(auto, unfolding(
-    neo_hookean::specs::Row::warmstart,
-    stored::specs::Read::cell_of,
-    stored::specs::Read::pose_of,
-    stored::specs::Read::neo_hookean_of,
-    cell_record::specs::Rows::strain_rows,
-))]
+#[tactic(auto, unfolding(neo_hookean::specs::Row::warmstart, stored::specs::Read::cell_of, stored::specs::Read::pose_of, stored::specs::Read::neo_hookean_of, cell_record::specs::Rows::strain_rows,))]
 pub fn warmed(b: Bytes, coeff: f32) -> Solved<Impulses>
     ensures { result ≡ n.warmstart (neo_hookean_of b.entry.bytes.now) coeff }
 {
@@ -168,16 +159,7 @@ fn strain_step(b: Bytes, rows: StrainRows, impulse: &[f32; 6], vel: Holds) -> [f
     cell_record::eased_at(b.at_least(), &residual)
 }
 
-#[tactic(auto, unfolding(
-    neo_hookean::specs::Row::solve,
-    neo_hookean::specs::NeoHookean::solve_neo_hookean,
-    stored::specs::Read::cell_of,
-    stored::specs::Read::pose_of,
-    stored::specs::Read::stiffness_of,
-    stored::specs::Read::neo_hookean_of,
-    cell_record::specs::Rows::strain_rows,
-    crate::specs::Parts::strain_step_at,
-))]
+#[tactic(auto, unfolding(neo_hookean::specs::Row::solve, neo_hookean::specs::NeoHookean::solve_neo_hookean, stored::specs::Read::cell_of, stored::specs::Read::pose_of, stored::specs::Read::stiffness_of, stored::specs::Read::neo_hookean_of, cell_record::specs::Rows::strain_rows, crate::specs::Parts::strain_step_at,))]
 pub fn solved(b: Bytes, vel: Holds) -> Solved<Impulses>
     ensures { result ≡ n.solve (neo_hookean_of b.entry.bytes.now) vel }
 {

@@ -2,18 +2,18 @@
 use Prim.Native.Nat.{ℕ, zero, suc, ◌+◌, ◌*◌, ◌-◌, ◌/◌, ◌%◌, ◌≤◌, ◌<◌}
 use mathlib.Core.Path.{◌≡◌, refl, sym, ap, subst, ◌∙◌}
 use mathlib.Core.Bool.{Bool, true, false, cond, ◌&&◌, ◌||◌}
-use mathlib.Core.List.{List, [], ◌++◌, append-nil}
+use mathlib.Core.List.{List}
 use native.Mathlib.Omega.{arith}
 use lib.Dec.{T, eqb, leb}
-use lib.ListN.{length, drop, drop_of_length-le}
-use lib.Seq.{take_all}
+use lib.ListN.{length}
 use borrow.Author.Tests.{eqb-true, eqb-false, leb-true, lt-leb}
 use Rattle.little_endian.specs.Bytes.{le16, le32}
-use Rattle.records.specs.Records.{record_length, record_at}
+use Rattle.records.specs.Records.{record_length}
 use Rattle.records.proofs.ByKind.{and_both}
 use Rattle.floats.specs.Written.{Written, AllWritten}
-use Rattle.row.specs.Widths.{row_length}
-use Rattle.row.specs.InFrame.{Stands, on_record}
+use Rattle.records.specs.Kinds.{row_kind}
+use Rattle.records.specs.declared.kinds.RowKind.TheVariants.{Scalar, Corotational, NeoHookean}
+use Rattle.row.specs.Widths.{row_length, width, Whole}
 use Rattle.rows_ffi.specs.Record.{is_record, is_written, all_written, is_row}
 
 written_is : (n : ℕ) → is_written n ≡ true → Written n
@@ -71,22 +71,18 @@ module _ (s : List ℕ) where
           (each_written s ((length s - 30) / 4) ((k - 30) / 4) (omega arith) both.1);
     }
 
-    pub itself : record_at s 0 ≡ s
-    itself = take_all (record_length s 0) s (omega (arith, (tests e).0))
-
-    pub stands : Stands 0 (length s) s
-    stands = record {
-      end = omega (arith, (tests e).0);
-      inside = omega arith;
-      wide = subst (λ (b : List ℕ). row_length (le16 b 4) ≤ record_length s 0) (sym itself) (tests e).1;
-      written = subst AllWritten (sym itself) written;
-    }
-
-    pub alone : (f : List ℕ → List ℕ) → on_record 0 f s ≡ f s
-    alone f =
-        let none : drop (0 + record_length s 0) s ≡ [] = drop_of_length-le s {i = 0 + record_length s 0} (omega (arith, (tests e).0)) in
-        ap (λ (b : List ℕ). f b ++ drop (0 + record_length s 0) s) itself ∙ ap (λ (r : List ℕ). f s ++ r) none ∙ append-nil (f s)
+    pub whole : Whole s
+    whole = record { wide = subst (λ (l : ℕ). row_length (le16 s 4) ≤ l) (tests e).0 (tests e).1; written = written }
 
   pub short : length s < 6 → false ≡ is_record s
   unfolding is_record
   short h = rw (lt-leb 6 (length s) h) refl
+
+pub width_is : (n : ℕ) → width (row_kind n) ≡ row_length n
+unfolding row_length
+width_is n = go (eqb n 3) (eqb n 4)
+  where
+    go : (t u : Bool) → width (cond t Scalar (cond u Corotational NeoHookean)) ≡ cond t 182 (cond u 618 678)
+    go true u = refl
+    go false true = refl
+    go false false = refl

@@ -6,7 +6,7 @@ ghost use Rattle.rows_ffi.specs.Mirrors.{as_holds, as_lost};
 ghost use Rattle.rows_ffi.specs.Record as spec;
 
 use crate::mirrors::{Holds, Lost};
-use records::{Kind, RowKind, layout};
+use records::{RowKind, layout};
 
 fn row_length(kind: RowKind) -> usize
     ensures { result ≡ width kind }
@@ -25,11 +25,11 @@ fn is_record(b: &[u8]) -> bool
     if b.len() < 6 {
         return false;
     }
+    let number = little_endian::get_u16(b, layout::KIND_AT);
     let n = 4 + (little_endian::get_u32(b, 0) as usize);
-    match Kind::try_from(little_endian::get_u16(b, layout::KIND_AT)) {
-        Ok(Kind::Row(kind)) => (n == b.len()) & (row_length(kind) <= n),
-        _ => false,
-    }
+    (n == b.len())
+        & ((number == 3) | (number == 4) | (number == 5))
+        & (row_length(RowKind::of(b)) <= n)
 }
 
 // Whether a pattern is no NaN's but the one that is written.

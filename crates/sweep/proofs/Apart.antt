@@ -19,7 +19,7 @@ use Rattle.floats.specs.Written.{AllWritten}
 use Rattle.points.specs.InFrame.{on_part, holds_in, taken}
 use Rattle.points.specs.Apart.{moved, Fit, holds_of, lost}
 use Rattle.points.proofs.Moved.{length_moved, moved_part, moved_on_part, positions_moved, holds_apart, lost_apart}
-use Rattle.sweep.specs.Laid.{Standing, Stepped, Ready}
+use Rattle.sweep.specs.Laid.{Standing, Stepped, step_of, Ready, Swept}
 use Rattle.sweep.specs.declared.Turn.{Turn}
 use Rattle.sweep.proofs.InFrame.{Stands, on_record}
 use Rattle.sweep.proofs.Rooms.{Room, room, size_here, length-here, record_here}
@@ -129,6 +129,37 @@ names_after {n} {off} {len} v s y i names f stay v' s' z =
     ∙ ap names_at (record_apart v s y ∙ record_here y.at)
     ∙ sym (stay y.b y.ps)
     ∙ ap names_at (sym (record_here (z y.H y.ps y.D y.b y.X y.at)) ∙ sym (record_apart v' s' y'))
+
+-- ---- as many velocities as before
+
+module _ {n m : ℕ} (e : m ≡ n) where
+  pub recounted : (f : List ℕ → Points → List ℕ × Points) {off len : ℕ} {M : List ℕ} (v : List Vec3) (s : List ℕ) → Stepped f n off len M (moved n v s) → Stepped f n off len M (moved m v s)
+  recounted f {off} {len} {M} v s = subst (λ (k : ℕ). Stepped f n off len M (moved k v s)) (sym e)
+
+  pub standing_at : {off len : ℕ} (v : List Vec3) (s : List ℕ) → Standing n off len (moved n v s) → Standing m off len (moved m v s)
+  standing_at {off} {len} v s = subst (λ (k : ℕ). Standing k off len (moved k v s)) (sym e)
+
+  pub ready_at : {r : ℕ} (v : List Vec3) (s : List ℕ) → Ready n r (moved n v s) → Ready m r (moved m v s)
+  ready_at {r} v s = subst (λ (k : ℕ). Ready k r (moved k v s)) (sym e)
+
+  module _ {l : ℕ} (d : l ≡ m) (t : Turn) (v : List Vec3) (s : List ℕ) (v' : List Vec3) (s' : List ℕ) where
+    pub stepped_at : {off len : ℕ} → Stepped (step_of m t) m off len (moved m v s) (moved l v' s') → Stepped (step_of n t) n off len (moved n v s) (moved n v' s')
+    stepped_at {off} {len} z =
+        subst (λ (k : ℕ). Stepped (step_of k t) k off len (moved k v s) (moved k v' s')) e
+        (subst (λ (k : ℕ). Stepped (step_of m t) m off len (moved m v s) (moved k v' s')) d z)
+
+    pub swept_at : {r : ℕ} → Swept t m r (moved m v s) (moved l v' s') → Swept t n r (moved n v s) (moved n v' s')
+    swept_at {r} z =
+        subst (λ (k : ℕ). Swept t k r (moved k v s) (moved k v' s')) e
+        (subst (λ (k : ℕ). Swept t m r (moved m v s) (moved k v' s')) d z)
+
+-- the row stands there still, with its names, after a step that leaves them
+pub stood_anew : {n m off len : ℕ} (v : List Vec3) (s : List ℕ) → Standing n off len (moved n v s) → (i : Ids) → i ≡ names_at (record_at s off)
+    → (f : List ℕ → Points → List ℕ × Points) → NamesStay f → (v' : List Vec3) (s' : List ℕ) → m ≡ n → Stepped f n off len (moved n v s) (moved m v' s')
+    → Standing m off len (moved m v' s') × (i ≡ names_at (record_at s' off))
+stood_anew {n} {m} {off} {len} v s y i names f stay v' s' e z =
+    let z' : Stepped f n off len (moved n v s) (moved n v' s') = subst (λ (k : ℕ). Stepped f n off len (moved n v s) (moved k v' s')) e z in
+    (standing_at e v' s' (stands n off len f (moved n v s) (moved n v' s') y z'), names_after v s y i names f stay v' s' z')
 
 -- ---- a turn of the loop over rows
 

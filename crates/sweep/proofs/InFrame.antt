@@ -1,6 +1,7 @@
 -- The record of a row as a part of its frame: what the frame is after it was lent and came back. Assumes nothing.
 use Rattle.std.proofs.Common.{◌≡◌, sym, ap, ◌∙◌, subst, ℕ, ◌+◌, ◌-◌, ◌≤◌, List, ◌++◌, length, take, drop}
 use native.Mathlib.Nat.{add-sub_cancel_left}
+use lib.ListN.{length-append, take-append-drop}
 use lib.Seq.{drop-drop}
 use Rattle.little_endian.specs.Bytes.{le16}
 use Rattle.records.specs.Records.{record_length, record_at}
@@ -42,3 +43,12 @@ module _ {off e : ℕ} {s : List ℕ} (w : Stands off e s) where
 
     pub written_back : AllWritten ys → AllWritten (f (record_at s off))
     written_back k = subst AllWritten (h ∙ ap f lent_is) k
+
+  pub lent_long : (ys : List ℕ) → length ys ≡ length lent → length (take off s ++ (ys ++ drop (e - off) (drop off s))) ≡ length s
+  lent_long ys h =
+      let D = drop (e - off) (drop off s) in
+      length-append (take off s) (ys ++ D)
+      ∙ ap (length (take off s) +◌) (length-append ys D ∙ ap (λ (m : ℕ). m + length D) h ∙ sym (length-append lent D))
+      ∙ sym (length-append (take off s) (lent ++ D))
+      ∙ ap (λ (l : List ℕ). length (take off s ++ l)) (take-append-drop (e - off) (drop off s))
+      ∙ ap length (take-append-drop off s)

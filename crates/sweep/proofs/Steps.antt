@@ -1,5 +1,6 @@
 -- What the code of one row's step leaves is the step of the rules. Assumes nothing.
-use Rattle.std.proofs.Common.{ℕ, ◌≡◌, refl, sym, ap, ◌∙◌, subst, Bool, true, false, List, ◌++◌, Float, Option, Some, None}
+use Rattle.std.proofs.Common.{ℕ, ◌≡◌, refl, sym, ap, ◌∙◌, subst, Bool, true, false, not, List, ◌++◌, Float, Option, Some, None}
+use Rattle.std.proofs.lemmas.Bool.{false≢true}
 use Rattle.little_endian.specs.Bytes.{part}
 use Rattle.records.specs.Records.{record_at, flatten}
 use Rattle.relisting.specs.Steps.{fetch, alters, ◌then◌, pick, choose, nothing}
@@ -15,7 +16,7 @@ use Rattle.stored.specs.PhaseLaws.{names_on, names_are, update_names, warm_names
 use Rattle.floats.specs.Written.{AllWritten}
 use Rattle.points.specs.InFrame.{on_part, holds_in, taken}
 use Rattle.points.proofs.Bridge.{holds_bridge, taken_bridge}
-use Rattle.sweep.specs.Laid.{At, Standing, Stepped, if_some, begin_of}
+use Rattle.sweep.specs.Laid.{At, Standing, Stepped, if_some, begin_of, is_passed, step_of}
 use Rattle.sweep.specs.declared.Turn.{Turn}
 use Rattle.sweep.specs.declared.Turn.TheVariants.{Main, Resweep}
 use Rattle.sweep.proofs.Rooms.{record_here, row_here, anew, still}
@@ -75,9 +76,6 @@ solved n off len s r i vel x s₁ s' e f v g h t u H ps D b X w =
 -- ---- steps from steps
 
 module _ (n off len : ℕ) where
-  pub not_on : (s : List ℕ) → Stepped nothing n off len s s
-  not_on s H ps D b X w = w
-
   -- a row stands there still
   pub stands : (f : List ℕ → Points → List ℕ × Points) (s s' : List ℕ) → Standing n off len s → Stepped f n off len s s' → Standing n off len s'
   stands f s s' y z = record {
@@ -94,15 +92,28 @@ module _ (n off len : ℕ) where
   after f g s s₁ s' y z H ps D b X w = z H (f b ps).1 D (f b ps).0 X (y H ps D b X w)
 
   -- a resweep passes over a row that is not strained, and solves one that is
-  module _ (x : Bool) (s : List ℕ) (e : x ≡ is_strained_at (record_at s off)) where
-    strained : {H : List ℕ} {ps : Points} {D b X : List ℕ} → At n off len H ps D b X s → x ≡ (row_of b).strained
-    strained {b = b} w = e ∙ ap is_strained_at (record_here w) ∙ sym (strained_is b)
+  strained_here : (s : List ℕ) (x : Bool) → not (is_strained_at (record_at s off)) ≡ x → (b : List ℕ) → record_at s off ≡ b → not (row_of b).strained ≡ x
+  strained_here s x h b e = ap not (strained_is b ∙ ap is_strained_at (sym e)) ∙ h
 
-    pub passed : x ≡ false → Stepped (resweep_step n) n off len s s
-    passed h H ps D b X w = subst (λ (y : Bool). At n off len H (pick y (solve n) nothing b ps).1 D (pick y (solve n) nothing b ps).0 X s) (sym h ∙ strained w) w
+  pub passed : (s : List ℕ) (t : Turn) → is_passed t (record_at s off) ≡ true → Stepped (step_of n t) n off len s s
+  passed s (Main p) h = absurd (false≢true h)
+  passed s Resweep h = λ H ps D b X w. go H ps D b X w (row_of b).strained (strained_here s true h b (record_here w))
+    where
+      go : (H : List ℕ) (ps : Points) (D b X : List ℕ) → At n off len H ps D b X s → (x : Bool) → not x ≡ true → At n off len H (pick x (solve n) nothing b ps).1 D (pick x (solve n) nothing b ps).0 X s
+      go H ps D b X w true e = absurd (false≢true e)
+      go H ps D b X w false e = w
 
-    pub gone : (s' : List ℕ) → x ≡ true → Stepped (solve n) n off len s s' → Stepped (resweep_step n) n off len s s'
-    gone s' h z H ps D b X w = subst (λ (y : Bool). At n off len H (pick y (solve n) nothing b ps).1 D (pick y (solve n) nothing b ps).0 X s') (sym h ∙ strained w) (z H ps D b X w)
+  pub gone : (s s' : List ℕ) (t : Turn) → is_passed t (record_at s off) ≡ false → Stepped (begin_of n t then solve n) n off len s s' → Stepped (step_of n t) n off len s s'
+  gone s s' (Main p) h z = z
+  gone s s' Resweep h z = λ H ps D b X w. go H ps D b X w (row_of b).strained (strained_here s false h b (record_here w))
+    where
+      go : (H : List ℕ) (ps : Points) (D b X : List ℕ) → At n off len H ps D b X s → (x : Bool) → not x ≡ false → At n off len H (pick x (solve n) nothing b ps).1 D (pick x (solve n) nothing b ps).0 X s'
+      go H ps D b X w true e = z H ps D b X w
+      go H ps D b X w false e = absurd (false≢true (sym e))
+
+  -- a phase that is on
+  pub if_on : (f : Float → List ℕ → Points → List ℕ × Points) {o : Option Float} {x : Float} {s s' : List ℕ} → o ≡ Some x → Stepped (f x) n off len s s' → Stepped (if_some f o) n off len s s'
+  if_on f {s = s} {s' = s'} e = subst (λ (o : Option Float). Stepped (if_some f o) n off len s s') (sym e)
 
 -- ---- an update and a warm start leave the names
 

@@ -1,9 +1,10 @@
 -- What the inner functions of a run cite: bytes that are laid out from a head, points and rows, and what a step or a sweep makes of them. A reader of the rules does not need it: the exported contract is stated with stored/specs/Run.antt. Definitions only. Assumes nothing.
-use Rattle.std.specs.Prelude.{ℕ, ◌+◌, ◌*◌, ◌≤◌, ◌<◌, ◌≡◌, List, [], ◌∷◌, ◌++◌, length, replicate, Float, Option, Some, None}
+use Rattle.std.specs.Prelude.{ℕ, ◌+◌, ◌*◌, ◌≤◌, ◌<◌, ◌≡◌, List, [], ◌∷◌, ◌++◌, length, replicate, Float, Bool, false, not, Option, Some, None}
 use Rattle.little_endian.specs.Bytes.{le16}
 use Rattle.records.specs.Records.{record_length, flatten}
 use Rattle.relisting.specs.Steps.{◌then◌, nothing, sweep, sweeps, run}
 use Rattle.stored.specs.Points.{Points, update, warm, solve, resweep_step}
+use Rattle.stored.specs.Phases.{is_strained_at}
 use Rattle.stored.specs.Run.{lay}
 use Rattle.floats.specs.Written.{AllWritten}
 use Rattle.floats.proofs.Same.{Finite3}
@@ -67,6 +68,11 @@ phases n p = if_some (update n) p.update then if_some (warm n) p.warm then solve
 abbrev pub begin_of : ℕ → Turn → List ℕ → Points → List ℕ × Points
 begin_of n (Main p) = if_some (update n) p.update then if_some (warm n) p.warm
 begin_of n Resweep = nothing
+
+-- whether a row is passed over
+abbrev pub is_passed : Turn → List ℕ → Bool
+is_passed (Main p) b = false
+is_passed Resweep b = not (is_strained_at b)
 
 -- what a sweep does with a row
 abbrev pub step_of : ℕ → Turn → List ℕ → Points → List ℕ × Points

@@ -4,8 +4,9 @@
 ghost use Rattle.std.specs.Prelude.{◌≡◌, ℕ, ◌+◌, ◌≤◌, length};
 ghost use Rattle.little_endian.specs.Bytes.{le16};
 ghost use Rattle.records.specs.Records.{record_length, record_at};
+ghost use Rattle.row.specs.Widths.{row_length};
 ghost use Rattle.stored.specs.Points as spec;
-ghost use Rattle.sweep.specs.Laid.{Calm, Standing, Stepped, if_some, begin_of, step_of, Ready, Swept, Reswept, Ran};
+ghost use Rattle.sweep.specs.Laid.{Calm, Standing, Stepped, if_some, begin_of, step_of, is_passed, Ready, Swept, Reswept, Ran};
 ghost use Rattle.sweep.specs.Joined.{joined, Stood};
 
 use places::Ids;
@@ -85,6 +86,17 @@ impl Row {
     }
 }
 
+// Whether a row is passed over.
+fn is_passed(t: Turn, b: &[u8]) -> bool
+    requires { row_length (le16 b.now 4) ≤ length b.now }
+    ensures { result ≡ is_passed t b.now }
+{
+    match t {
+        Turn::Main(_) => false,
+        Turn::Resweep => !row::is_strained(b),
+    }
+}
+
 // The row's names are read once, and what the phases put leaves them. The main sweep does as `solve_color_constraint` does it.
 fn step(t: Turn, off: usize, len: usize, s: &mut [u8], v: &mut Velocities)
     requires { Standing v.old.count off len (joined v.old s.old) }
@@ -92,7 +104,7 @@ fn step(t: Turn, off: usize, len: usize, s: &mut [u8], v: &mut Velocities)
     ensures stepped { Stepped (step_of v.old.count t) v.old.count off len (joined v.old s.old) (joined v.new s.new) }
 {
     let b = records::record_at(s, off);
-    if let Turn::Resweep = t && !row::is_strained(b) {
+    if is_passed(t, b) {
         return;
     }
     let names = row::names_at(b);

@@ -1,5 +1,4 @@
-use Prim.Native.Nat.{◌+◌, ◌*◌, ◌-◌}
-use mathlib.Core.Bool.{true, ◌&&◌}
+use Rattle.std.proofs.Common.{◌+◌, ◌*◌, true, ◌&&◌}
 use Rattle.loops.specs.Loops.{Ran}
 use Rattle.little_endian.specs.Bytes.{le32}
 use Rattle.rows_ffi.specs.Record.{is_written}
@@ -7,6 +6,3 @@ use Rattle.rows_ffi.proofs.of_row.all_written.Given as goal
 
 abbrev pub invariant-loop-i : goal.invariant-loop-i
 invariant-loop-i l = Ran l.n (λ j t. t && is_written (le32 l.b (30 + 4 * j))) true l.i l.all
-
-abbrev pub decreases-loop-i : goal.decreases-loop-i
-decreases-loop-i l = l.n - l.i

@@ -1,20 +1,23 @@
 -- `rows_ffi::of_row::rt_row_warm` meets its contract, by whether the bytes are a row's record. Assumes nothing.
-use mathlib.Core.Path.{refl, sym, ◌∙◌}
-use Rattle.stored.specs.Phases.{warm_row}
-use Rattle.rows_ffi.specs.Record.{warmed, warm_lost, lost}
-use Rattle.rows_ffi.proofs.Alone.{stands, alone, itself}
+use Rattle.std.proofs.Common.{refl, sym, ap, ◌∙◌, Some}
+use Rattle.vector.specs.declared.Vec3.{Vec3}
+use Rattle.vector.specs.declared.Four.{Four}
+use Rattle.places.specs.Places.{Holds}
+use Rattle.stored.specs.Phases.{warm_row, warm_loss}
+use Rattle.rows_ffi.specs.Mirrors.{lost_of}
+use Rattle.rows_ffi.specs.Record.{warmed, warm_lost}
+use Rattle.rows_ffi.proofs.Alone.{whole}
 use Rattle.rows_ffi.proofs.of_row.rt_row_warm.Goals as goal
 
-pub warm_row-loss-requires : goal.warm_row-loss-requires
-warm_row-loss-requires c = stands _ (sym c.is_row.ensures ∙ c.if-is_row.true)
+pub warm_row-requires : goal.warm_row-requires
+warm_row-requires c = whole _ (sym c.is_row.ensures ∙ c.if-is_row.true)
 
 pub returns-then-is_row : goal.returns-then-is_row
-unfolding warmed warm_lost lost
+unfolding warmed warm_lost
 returns-then-is_row c =
-    let a = c.args in
     let is = (sym c.is_row.ensures ∙ c.if-is_row.true) in
-    (rw (is, c.warm_row-loss.ensures.1, itself _ is) refl, rw is (c.warm_row-loss.ensures.0.0 ∙ alone _ is (warm_row a.coeff)))
+    (rw is (c.into.ensures ∙ ap (λ (x : Four Vec3). lost_of (Some x)) c.warm_row.ensures.loss), rw is c.warm_row.ensures.anew)
 
 pub returns : goal.returns
-unfolding warmed warm_lost lost
-returns c = let is = (sym c.is_row.ensures ∙ c.if-is_row.false) in (rw (is, c.nothing_lost.ensures) refl, rw is refl)
+unfolding warmed warm_lost
+returns c = let is = (sym c.is_row.ensures ∙ c.if-is_row.false) in (rw is c.into-2.ensures, rw is refl)

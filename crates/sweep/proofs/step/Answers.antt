@@ -1,0 +1,37 @@
+-- `sweep::step` meets its contract. Assumes nothing.
+use Rattle.std.proofs.Common.{◌≡◌, ◌∙◌, ap, sym, subst, ℕ, ◌≤◌, List, length, arith}
+use Rattle.little_endian.specs.Bytes.{le16}
+use Rattle.stored.specs.Phases.{names_at}
+use Rattle.row.specs.Widths.{row_length}
+use Rattle.stored.specs.Points.{solve}
+use Rattle.sweep.specs.Joined.{joined}
+use Rattle.sweep.specs.Laid.{Stepped, is_passed}
+use Rattle.sweep.proofs.Steps.{after, passed, gone, begin_stay}
+use Rattle.sweep.proofs.Apart.{room_apart, record_apart, stood_anew}
+use Rattle.sweep.proofs.step.Goals as goal
+
+wide : {r s : List ℕ} → r ≡ s → row_length (le16 s 4) ≤ length s → row_length (le16 r 4) ≤ length r
+wide e h = subst (λ (r : List ℕ). row_length (le16 r 4) ≤ length r) (sym e) h
+
+pub record_at-b-requires : goal.record_at-b-requires
+record_at-b-requires c = omega (arith, (room_apart _ _ c.requires).said)
+
+pub is_passed-requires : goal.is_passed-requires
+is_passed-requires c = wide c.record_at-b.ensures.0 (room_apart _ _ c.requires).wide
+
+pub names_at-names-requires : goal.names_at-names-requires
+names_at-names-requires c = wide c.record_at-b.ensures.0 (room_apart _ _ c.requires).wide
+
+pub returns-then-is_passed-clause-stepped : goal.returns-then-is_passed-clause-stepped
+returns-then-is_passed-clause-stepped c =
+    passed _ _ _ _ c.args.t (sym (c.is_passed.ensures ∙ ap (is_passed c.args.t) (c.record_at-b.ensures.0 ∙ record_apart _ _ c.requires)) ∙ c.if-is_passed.true)
+
+pub solve-requires : goal.solve-requires
+solve-requires c =
+    stood_anew _ _ c.requires _ (c.names_at-names.ensures ∙ ap names_at c.record_at-b.ensures.0) _ (begin_stay _ c.args.t) _ _ c.begin.ensures.counted c.begin.ensures.stepped
+
+pub returns-clause-stepped : goal.returns-clause-stepped
+returns-clause-stepped c =
+    let z = subst (λ (k : ℕ). Stepped (solve k) k c.args.off c.args.len (joined c.begin.new.v c.begin.new.s) (joined c.solve.new.v c.solve.new.s)) c.begin.ensures.counted c.solve.ensures.stepped in
+    gone _ _ _ _ _ c.args.t (sym (c.is_passed.ensures ∙ ap (is_passed c.args.t) (c.record_at-b.ensures.0 ∙ record_apart _ _ c.requires)) ∙ c.if-is_passed.false)
+    (after _ _ _ _ _ _ _ _ c.begin.ensures.stepped z)

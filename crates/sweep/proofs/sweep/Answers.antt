@@ -1,0 +1,38 @@
+-- `sweep::sweep` meets its contract. Assumes nothing.
+use Rattle.std.proofs.Common.{refl, sym, subst, ◌∙◌, ℕ, arith}
+use Rattle.points.specs.Apart.{moved}
+use Rattle.sweep.specs.Joined.{joined}
+use Rattle.sweep.specs.Laid.{Swept}
+use Rattle.sweep.proofs.Apart.{turn_room, turn_long, turn_scalar, turn_says, standing_at, stepped_at}
+use Rattle.sweep.proofs.Sweeps.{going_begins, going_stands, going_again, going_ends}
+use Rattle.sweep.proofs.sweep.Goals as goal
+
+pub loop-row-init : goal.loop-row-init
+loop-row-init c = record { going = going_begins _ _ _ _; counted = refl }
+
+pub row_at-len-requires : goal.row_at-len-requires
+row_at-len-requires c =
+    let i = c.loop-row.invariant in
+    let room = turn_room _ _ _ _ _ _ _ _ i.going c.requires (omega arith) in
+    let long = turn_long _ _ _ _ _ _ _ _ i.going c.requires (omega arith) in
+    ((omega (arith, room, long), room), turn_scalar _ _ _ _ _ _ _ _ i.going c.requires (omega arith))
+
+pub step-requires : goal.step-requires
+step-requires c =
+    let i = c.loop-row.invariant in
+    standing_at i.counted _ _ (going_stands _ _ _ _ _ _ _ i.going c.requires (omega arith) _ (turn_says _ _ _ _ _ _ _ _ i.going c.requires (omega arith) _ c.row_at-len.ensures.1))
+
+pub loop-row-preserved : goal.loop-row-preserved
+loop-row-preserved c =
+    let i = c.loop-row.invariant in
+    record {
+      going = going_again _ _ _ _ _ _ _ i.going (omega arith) _ _ (turn_says _ _ _ _ _ _ _ _ i.going c.requires (omega arith) _ c.row_at-len.ensures.1)
+          (stepped_at i.counted c.step.ensures.counted _ _ _ _ _ c.step.ensures.stepped);
+      counted = c.step.ensures.counted ∙ i.counted;
+    }
+
+pub returns-clause-swept : goal.returns-clause-swept
+returns-clause-swept c =
+    let i = c.loop-row.invariant in
+    subst (λ (k : ℕ). Swept c.args.t c.args.v.now.count c.args.r (joined c.args.v.now c.args.s.now) (moved k c.loop-row.v.all c.loop-row.s)) (sym i.counted)
+    (going_ends _ _ _ _ _ _ _ i.going (omega arith))
