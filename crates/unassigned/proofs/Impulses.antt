@@ -7,7 +7,7 @@ use lib.Dec.{eqb}
 use lib.ListN.{get_or}
 use lib.Ieee.{Float}
 use Rattle.little_endian.specs.Bytes.{le16}
-use Rattle.places.specs.declared.Holds.{Holds}
+use Rattle.places.specs.Places.{Holds}
 use Rattle.cell.specs.declared.Impulses.{Impulses}
 use Rattle.records.specs.Layout as at
 use Rattle.rows.specs.Row.{Constraint, scalar, corotational, neo_hookean}
