@@ -7,13 +7,12 @@ use mathlib.Core.List.{List, [], ◌∷◌, ◌++◌}
 use native.Mathlib.Omega.{arith}
 use lib.Dec.{eqb}
 use Rattle.little_endian.specs.Bytes.{le16}
-use borrow.Author.Tests.{eqb-true}
 use Rattle.records.specs.declared.Answer.{Answer}
 use Rattle.records.specs.declared.Due.{Due}
-use Rattle.records.specs.Answers.{Test, number_of, refused, first_of, from, first_from, Passed, ◌or_else◌}
+use Rattle.records.specs.Answers.{Test, number_of, refused, first_of, from, first_from, Passed}
 use Rattle.records.specs.Fields.{limit16, limit32, code, finite, bound, ordered, cap, colour_from, run, head_fields, point_fields, scalar_codes, scalar_floats, scalar_fields, elastic_codes, corotational_fields, neo_hookean_fields, fields}
 use Rattle.records.specs.Records.{shape, record_tests, records_tests, record_at, record_length}
-use Rattle.records.proofs.Firsts.{Zero, first_append, first_passed, passed_first, stop_at, go_on}
+use Rattle.records.proofs.Firsts.{Zero}
 use Rattle.clash.specs.Clash.{clash_tests, Key, key_of}
 use Rattle.frame.specs.Check.{extra}
 use Rattle.acceptance.specs.Given.{FirstFailure}
@@ -29,23 +28,35 @@ place_is e = ap (λ (x : Answer). x.place) e
 pub refused_not : {n p : ℕ} {a : Answer} → a ≡ refused (suc n) p → Zero a → ⊥
 refused_not e z = let y : ◌≡◌ {A = ℕ} 0 _ = sym z ∙ ap (λ (x : Answer). x.number) e in omega arith
 
-module _ (ts us : List Test) (n p : ℕ) where
-  pub answer_split : first_of (ts ++ us) ≡ refused (suc n) p → (first_of ts ≡ refused (suc n) p) ⊎ (Passed ts × (first_of us ≡ refused (suc n) p))
-  unfolding ◌or_else◌
-  answer_split e = go (eqb (first_of ts).number 0) refl (sym (first_append ts us) ∙ e)
-    where
-      go : (b : Bool) → eqb (first_of ts).number 0 ≡ b → cond b (first_of us) (first_of ts) ≡ refused (suc n) p
-          → (first_of ts ≡ refused (suc n) p) ⊎ (Passed ts × (first_of us ≡ refused (suc n) p))
-      go true z e = inr (first_passed ts (eqb-true (first_of ts).number 0 z), e)
-      go false z e = inl e
+pub answer_split : (ts us : List Test) (n p : ℕ) → first_of (ts ++ us) ≡ refused (suc n) p
+    → (first_of ts ≡ refused (suc n) p) ⊎ (Passed ts × (first_of us ≡ refused (suc n) p))
+unfolding first_of Passed
+answer_split [] us n p e = inr (tt, e)
+answer_split (t ∷ ts) us n p e = go t.fails refl e (answer_split ts us n p)
+  where
+    go : (b : Bool) → t.fails ≡ b → cond b (refused (number_of t.refusal) t.place) (first_of (ts ++ us)) ≡ refused (suc n) p
+        → (first_of (ts ++ us) ≡ refused (suc n) p → (first_of ts ≡ refused (suc n) p) ⊎ (Passed ts × (first_of us ≡ refused (suc n) p)))
+        → (cond b (refused (number_of t.refusal) t.place) (first_of ts) ≡ refused (suc n) p) ⊎ (((t.fails ≡ false) × Passed ts) × (first_of us ≡ refused (suc n) p))
+    go true f e ih = inl e
+    go false f e ih = elim (ih e) [
+      | inl x ↦ inl x
+      | inr x ↦ inr ((f, x.0), x.1)
+    ]
 
-  pub answer_left : first_of ts ≡ refused (suc n) p → first_of (ts ++ us) ≡ refused (suc n) p
-  answer_left e = first_append ts us ∙ sym (stop_at (first_of ts) (first_of us) (first_of ts) refl (refused_not e)) ∙ e
+pub answer_left : (ts us : List Test) (n p : ℕ) → first_of ts ≡ refused (suc n) p → first_of (ts ++ us) ≡ refused (suc n) p
+unfolding first_of
+answer_left [] us n p e = absurd (refused_not e refl)
+answer_left (t ∷ ts) us n p e = go t.fails e (answer_left ts us n p)
+  where
+    go : (b : Bool) → cond b (refused (number_of t.refusal) t.place) (first_of ts) ≡ refused (suc n) p
+        → (first_of ts ≡ refused (suc n) p → first_of (ts ++ us) ≡ refused (suc n) p) → cond b (refused (number_of t.refusal) t.place) (first_of (ts ++ us)) ≡ refused (suc n) p
+    go true e ih = e
+    go false e ih = ih e
 
 pub answer_right : (ts us : List Test) → Passed ts → first_of (ts ++ us) ≡ first_of us
-answer_right ts us p =
-    let z : Zero (first_of ts) = ap (λ (x : Answer). x.number) (passed_first ts p) in
-    first_append ts us ∙ sym (go_on (first_of ts) (first_of us) (first_of us) (first_of ts) refl z refl)
+unfolding first_of Passed
+answer_right [] us p = refl
+answer_right (t ∷ ts) us p = simp p.0 (answer_right ts us p.1)
 
 to_failure : (n p : ℕ) (ts : List Test) → first_of ts ≡ refused (suc n) p → FirstFailure ts (suc n) p
 unfolding first_of Passed

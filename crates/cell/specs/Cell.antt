@@ -1,5 +1,5 @@
 -- What both elastic rows share: the update of positions, rotation and strain, the velocities in the cell's frame, and what an impulse takes from each place. As soft_elastic_constraint.rs has them. Definitions only. Assumes nothing.
-use Rattle.std.specs.Prelude.{Bool, cond, List, Float, Option, Some, None}
+use Rattle.std.specs.Prelude.{Bool, cond, List, Float, Some, None}
 use Rattle.std.specs.Float.Ieee.{lt, neg}
 use Rattle.loops.specs.Fill.{tabulate}
 use Rattle.real.specs.Float.{◌⊗◌, at, f0, f1}
@@ -14,7 +14,7 @@ use Rattle.vector.specs.declared.Four.{Four}
 use Rattle.strain.specs.Six.{scale6, any_above6}
 use Rattle.shape.specs.Rotation.{extract_rotation}
 use Rattle.shape.specs.Cell.{cell_edge_matrix}
-use Rattle.places.specs.Places.{Holds, Masses, refreshed}
+use Rattle.places.specs.Places.{Held, Holds, Masses, refreshed}
 use Rattle.cell.specs.Strain.{strain_rows_of, strain_tensor, outer_sum}
 use Rattle.cell.specs.declared.Cell.{Cell}
 use Rattle.cell.specs.declared.Impulses.{Impulses}
@@ -65,7 +65,7 @@ is_strained e least = any_above6 e least
 -- ---- solve
 
 -- a place that is skipped counts as at rest, whatever the rotation
-abbrev pub local_of : Mat3 → Option Vec3 → Vec3
+abbrev pub local_of : Mat3 → Held → Vec3
 local_of invRot (Some x) = mul_vec invRot x
 local_of invRot None = v.zero_vector
 

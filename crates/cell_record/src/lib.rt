@@ -1,21 +1,28 @@
-// What both elastic rows share on the bytes of a record: the pose anew, the impulses, and both put back.
+// What both elastic rows share on the bytes of a record: the pose anew, the strain rows, the impulses, and what of them is put back.
 #![tactic(auto)]
 
-ghost use Rattle.std.specs.Prelude.{◌≡◌, ◌+◌, ◌≤◌, length};
+ghost use Rattle.std.specs.Prelude.{◌≡◌, ◌+◌, ◌%◌, ◌≤◌, length};
 ghost use Rattle.records.specs.Layout as at;
 ghost use Rattle.strain.specs.Matrix.{mat_vec};
 ghost use Rattle.cell.specs.Cell as cell;
-ghost use Rattle.floats.specs.Written.{AllWritten, Kept};
+ghost use Rattle.floats.specs.Fields.{floats_at};
+ghost use Rattle.floats.specs.Written.{Kept};
 ghost use Rattle.stored.specs.Read.{cell_of, pose_of, compliance_of, impulses_of};
 ghost use Rattle.stored.specs.Put.{put_flag, put_pose, put_impulses};
 ghost use Rattle.cell_record.specs.Anew.{pos_anew, deformation_anew, posed_anew};
+ghost use Rattle.cell_record.specs.Rows.{strain_rows};
 
 use cell::tensor::from_columns;
-use cell::{Compliance, Impulses, Pose};
+use cell::{Compliance, Impulses, Pose, StrainRows};
+use floats::Field;
+use floats::row_bytes::RowBytes;
 use places::Holds;
 use records::layout;
 use stored::put_flag;
-use vector::{Four, Mat3};
+use vector::{Four, Mat3, Vec3};
+
+// The bytes of an elastic row, as far as both kinds have the same fields.
+pub type ElasticBytes<'a> = RowBytes<'a, 450>;
 
 pub fn put_strained(b: &mut [u8], strain: &[f32; 6], least: f32)
     requires { 450 ≤ length b.old }
@@ -30,90 +37,127 @@ pub fn put_strained(b: &mut [u8], strain: &[f32; 6], least: f32)
 
 // ---- the pose: only what an update uses of the last one is read
 
-pub fn pos_anew(b: &[u8], held: Holds) -> Four
-    requires { (450 ≤ length b.now) × AllWritten b.now }
-    ensures { result ≡ pos_anew held b.now }
+#[tactic(auto, unfolding(crate::specs::Anew::pos_anew, floats::specs::Fields::four_at))]
+pub fn pos_anew(b: ElasticBytes, held: Holds) -> Four<Vec3>
+    ensures { result ≡ pos_anew held b.entry.bytes.now }
 {
-    places::refreshed(held, floats::four_at(b, layout::ROW_POS))
+    places::refreshed(held, b.get(layout::ROW_POS))
 }
 
-pub fn deformation_anew(b: &[u8], pos: Four) -> Mat3
-    requires { (450 ≤ length b.now) × AllWritten b.now }
-    ensures { result ≡ deformation_anew pos b.now }
+#[tactic(auto, unfolding(crate::specs::Anew::deformation_anew))]
+pub fn deformation_anew(b: ElasticBytes, pos: Four<Vec3>) -> Mat3
+    ensures { result ≡ deformation_anew pos b.entry.bytes.now }
 {
-    let inv_rest = floats::mat3_at(b, layout::ELASTIC_INV_REST_MATRIX);
-    cell::update::deformation_gradient(pos, inv_rest)
+    cell::update::deformation_gradient(pos, b.get(layout::ELASTIC_INV_REST_MATRIX))
 }
 
-pub fn posed_anew(b: &[u8], pos: Four, f: Mat3) -> Pose
-    requires { (450 ≤ length b.now) × AllWritten b.now }
-    ensures { result ≡ posed_anew pos f b.now }
+#[tactic(auto, unfolding(crate::specs::Anew::posed_anew))]
+pub fn posed_anew(b: ElasticBytes, pos: Four<Vec3>, f: Mat3) -> Pose
+    ensures { result ≡ posed_anew pos f b.entry.bytes.now }
 {
-    let caps = floats::floats6_at(b, layout::ELASTIC_STRAIN_CAP);
-    let warm = floats::quat_at(b, layout::ELASTIC_ROTATION);
+    let caps = b.get(layout::ELASTIC_STRAIN_CAP);
+    let warm = b.get(layout::ELASTIC_ROTATION);
     cell::update::posed(&caps, warm, pos, f)
 }
 
-pub fn pose_anew(b: &[u8], held: Holds) -> Pose
-    requires { (450 ≤ length b.now) × AllWritten b.now }
-    ensures { result ≡ cell.update_pose (cell_of b.now) (pose_of b.now) held }
+#[tactic(auto, unfolding(
+    cell::specs::Cell::update_pose,
+    stored::specs::Read::cell_of,
+    stored::specs::Read::pose_of,
+    crate::specs::Anew::pos_anew,
+    crate::specs::Anew::deformation_anew,
+    crate::specs::Anew::posed_anew,
+))]
+pub fn pose_anew(b: ElasticBytes, held: Holds) -> Pose
+    ensures { result ≡ cell.update_pose (cell_of b.entry.bytes.now) (pose_of b.entry.bytes.now) held }
 {
     let pos = pos_anew(b, held);
     let f = deformation_anew(b, pos);
     posed_anew(b, pos, f)
 }
 
+#[tactic(auto, unfolding(stored::specs::Put::put_pose, floats::specs::Fields::put_four))]
 pub fn put_pose(b: &mut [u8], p: Pose)
     requires { 450 ≤ length b.old }
     ensures { (b.new ≡ put_pose p b.old) × Kept b.old b.new }
 {
-    let strain = p.strain;
     put_flag(b, layout::ELASTIC_INVERTED, p.inverted);
-    floats::put_four(b, layout::ROW_POS, p.pos);
-    floats::put_quat(b, layout::ELASTIC_ROTATION, p.rotation);
-    floats::put_mat3(b, layout::ELASTIC_ROT_MAT, p.rot_mat);
-    floats::put_floats6(b, layout::ELASTIC_STRAIN, &strain);
+    p.pos.put(b, layout::ROW_POS);
+    p.rotation.put(b, layout::ELASTIC_ROTATION);
+    p.rot_mat.put(b, layout::ELASTIC_ROT_MAT);
+    p.strain.put(b, layout::ELASTIC_STRAIN);
 }
 
-// ---- the impulses
+// ---- the strain rows and the impulses. Both are compiled into each phase that reads them
 
-pub fn impulses_of(b: &[u8]) -> Impulses
-    requires { (450 ≤ length b.now) × AllWritten b.now }
-    ensures { result ≡ impulses_of b.now }
+#[inline(always)]
+#[tactic(auto, unfolding(crate::specs::Rows::strain_rows, floats::specs::Fields::four_at, floats::specs::Fields::masses_at))]
+pub fn strain_rows(b: ElasticBytes, rot: Mat3) -> StrainRows
+    ensures { result ≡ strain_rows rot b.entry.bytes.now }
 {
-    let strain = floats::floats6_at(b, layout::ELASTIC_STRAIN_IMPULSE);
-    let vol = floats::f32_at(b, layout::ELASTIC_VOL_IMPULSE);
-    Impulses { strain, vol }
+    StrainRows {
+        rot,
+        coeffs: b.get(layout::ELASTIC_COEFFS),
+        im: b.get(layout::ROW_IM),
+    }
 }
 
+#[inline(always)]
+#[tactic(auto, unfolding(stored::specs::Read::impulses_of))]
+pub fn impulses_of(b: ElasticBytes) -> Impulses
+    ensures { result ≡ impulses_of b.entry.bytes.now }
+{
+    Impulses {
+        strain: b.get(layout::ELASTIC_STRAIN_IMPULSE),
+        vol: b.get(layout::ELASTIC_VOL_IMPULSE),
+    }
+}
+
+#[tactic(auto, unfolding(stored::specs::Put::put_impulses))]
 pub fn put_impulses(b: &mut [u8], l: Impulses)
     requires { 450 ≤ length b.old }
     ensures { (b.new ≡ put_impulses l b.old) × Kept b.old b.new }
 {
-    let strain = l.strain;
-    floats::put_floats6(b, layout::ELASTIC_STRAIN_IMPULSE, &strain);
-    floats::put_f32(b, layout::ELASTIC_VOL_IMPULSE, l.vol);
+    l.strain.put(b, layout::ELASTIC_STRAIN_IMPULSE);
+    l.vol.put(b, layout::ELASTIC_VOL_IMPULSE);
 }
 
-// ---- the block's inverse: it is read and multiplied in one function, which both kinds call, and so it is never copied
+// ---- 6x6 matrices
 
-fn compliance_of(b: &[u8]) -> Compliance
-    requires { (450 ≤ length b.now) × AllWritten b.now }
-    ensures { result ≡ compliance_of b.now }
+// The matrix at k, column by column.
+#[inline(always)]
+#[tactic(auto, using(crate::proofs::Joined::joined))]
+pub fn matrix_at<const N: usize>(b: RowBytes<N>, k: usize) -> [f32; 36]
+    requires first { 30 ≤ k }
+    requires turn { k % 4 ≡ 2 }
+    requires inside { k + 144 ≤ N }
+    ensures { result ≡ floats_at 36 b.entry.bytes.now k }
 {
-    let c0 = floats::floats6_at(b, layout::ELASTIC_INV_A);
-    let c1 = floats::floats6_at(b, layout::ELASTIC_INV_A + 24);
-    let c2 = floats::floats6_at(b, layout::ELASTIC_INV_A + 48);
-    let c3 = floats::floats6_at(b, layout::ELASTIC_INV_A + 72);
-    let c4 = floats::floats6_at(b, layout::ELASTIC_INV_A + 96);
-    let c5 = floats::floats6_at(b, layout::ELASTIC_INV_A + 120);
-    let inv_a = from_columns(&c0, &c1, &c2, &c3, &c4, &c5);
-    Compliance { inv_a }
+    from_columns(&[
+        b.get(k),
+        b.get(k + 24),
+        b.get(k + 48),
+        b.get(k + 72),
+        b.get(k + 96),
+        b.get(k + 120),
+    ])
 }
 
-pub fn eased_at(b: &[u8], residual: &[f32; 6]) -> [f32; 6]
-    requires { (450 ≤ length b.now) × AllWritten b.now }
-    ensures { result ≡ mat_vec (compliance_of b.now).inv_a residual.now }
+#[inline(always)]
+#[tactic(auto, unfolding(stored::specs::Read::compliance_of))]
+pub fn compliance_of(b: ElasticBytes) -> Compliance
+    ensures { result ≡ compliance_of b.entry.bytes.now }
 {
-    cell::solve::eased(compliance_of(b), residual)
+    Compliance {
+        inv_a: matrix_at(b, layout::ELASTIC_INV_A),
+    }
+}
+
+// The block's inverse times a residual: read and multiplied in one function, which both kinds call, since the product would lose its vectors if
+// it were compiled into a solve.
+#[inline(never)]
+pub fn eased_at(b: ElasticBytes, residual: &[f32; 6]) -> [f32; 6]
+    ensures { result ≡ mat_vec (compliance_of b.entry.bytes.now).inv_a residual.now }
+{
+    compliance_of(b).eased(residual)
 }

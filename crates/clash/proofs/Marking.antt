@@ -6,13 +6,14 @@ use mathlib.Core.Bool.{Bool, true, false, cond, not, ◌&&◌, ◌||◌}
 use mathlib.Core.List.{List, [], ◌∷◌}
 use native.Mathlib.Omega.{arith}
 use native.Mathlib.Decide.{ℕ_discrete}
-use lib.ListN.{length, get_or, set, replicate, length-replicate, length-set, get_or-replicate}
-use lib.Seq.{get_or-set_same, get_or-set_other}
+use lib.ListN.{length, get_or, set, take, replicate, length-replicate, length-set, length-take, get_or-replicate}
+use lib.Seq.{get_or-set_same, get_or-set_other, get_or-take}
 use lib.Dec.{ltb, eqb}
-use borrow.Author.Tests.{eq-eqb, ne_eqb, lt-ltb, le-ltb, ltb-true}
+use borrow.Author.Tests.{eq-eqb, ne_eqb, lt-ltb, ltb-true}
+use Rattle.std.specs.Prelude.{Option, Some, None}
 use Rattle.little_endian.specs.Bytes.{le16}
 use Rattle.clash.specs.Clash.{Key, key_of, any_of, named_by, clashes}
-use Rattle.clash.specs.Marks.{names_of, four, marked_at, clashing, mark_with, mark_all, mark_row}
+use Rattle.clash.specs.Marks.{names_of, named, marked_at, clashing, mark_with, mark_all, mark_row}
 use Rattle.clash.proofs.Places.{any_named, colour_key, colour_names}
 
 -- colours fall from c on, the latest row first
@@ -68,14 +69,19 @@ named_mark (q ∷ qs) c x b h = go (any_of (eqb x) q.ids) refl (λ d. named_mark
       | no f ↦ simp (e, ne_eqb q.colour c f, ne_eqb q.colour 65535 (λ z. omega arith), none_named qs c q.colour x b.1 (omega arith)) (sym (ne_eqb (q.colour + 1) (c + 1) (λ z. f (omega arith))))
     ]
 
--- the marks after the rows qs, the latest first
+-- the marks of n points after the rows qs, the latest first
 pub record Marked (n : ℕ) (ms : List ℕ) (qs : List Key) : Type 0 where
-  pub size : length ms ≡ 4096
+  pub size : length ms ≡ n
   pub marks : (p : ℕ) → p < n → get_or ms p 0 ≡ mark_of qs p
 
-pub no_marks : (n : ℕ) → n ≤ 4096 → Marked n (replicate 4096 0) []
+pub no_marks : (n : ℕ) → n ≤ 4096 → Marked n (take n (replicate 4096 0)) []
 unfolding mark_of
-no_marks n h = record { size = length-replicate {A = ℕ} 4096 0; marks = λ p l. get_or-replicate {A = ℕ} 4096 p 0 0 (omega arith) }
+no_marks n h =
+    let l = length-replicate {A = ℕ} 4096 0 in
+    record {
+      size = length-take n (replicate 4096 0) ∙ omega arith;
+      marks = λ p b. get_or-take n (replicate 4096 0) p 0 b ∙ get_or-replicate {A = ℕ} 4096 p 0 0 (omega arith);
+    }
 
 -- ---- the test
 
@@ -84,53 +90,53 @@ unfolding any_of
 any_same t u [] h = refl
 any_same t u (x ∷ l) h = simp (h x, any_same t u l h)
 
-module _ (n : ℕ) (ms : List ℕ) (qs : List Key) (c : ℕ) (few : n ≤ 4096) (w : Marked n ms qs) (b : Below qs c) (h : c < 65535) where
-  marked_is : (id : ℕ) → marked_at n ms (c + 1) id ≡ (ltb id n && any_of (named_by c id) qs)
+module _ (n : ℕ) (ms : List ℕ) (qs : List Key) (c : ℕ) (w : Marked n ms qs) (b : Below qs c) (h : c < 65535) where
+  marked_is : (id : ℕ) → marked_at ms (c + 1) id ≡ (ltb id n && any_of (named_by c id) qs)
   unfolding marked_at
-  marked_is id = go (ltb id n) refl
+  marked_is id = rw w.size (go (ltb id n) refl)
     where
       go : (t : Bool) → ltb id n ≡ t → (t && eqb (get_or ms id 0) (c + 1)) ≡ (t && any_of (named_by c id) qs)
       go true e = ap (λ (m : ℕ). eqb m (c + 1)) (w.marks id (ltb-true id n e)) ∙ sym (named_mark qs c id b h)
       go false e = refl
 
-  marked_any : (r : List ℕ) → any_of (marked_at n ms (c + 1)) (four (names_of r)) ≡ any_of (λ x. ltb x n && any_of (named_by c x) qs) (key_of r).ids
-  marked_any r =
-      any_same _ _ (four (names_of r)) marked_is
-      ∙ any_named (λ x. ltb x n && any_of (named_by c x) qs) (simp (le-ltb 4294967295 n (omega arith))) r
+  marked_any : (r : List ℕ) → any_of (named (marked_at ms (c + 1))) (names_of r).ids ≡ any_of (λ x. ltb x n && any_of (named_by c x) qs) (key_of r).ids
+  marked_any r = any_named (marked_at ms (c + 1)) r ∙ any_same _ _ (key_of r).ids marked_is
 
-pub clashing_is : (n : ℕ) (ms : List ℕ) (qs : List Key) (r : List ℕ) → n ≤ 4096 → Marked n ms qs → Below qs (le16 r 6) → le16 r 6 < 65536
-    → clashing n ms (names_of r) ≡ clashes n qs (key_of r)
+pub clashing_is : (n : ℕ) (ms : List ℕ) (qs : List Key) (r : List ℕ) → Marked n ms qs → Below qs (le16 r 6) → le16 r 6 < 65536
+    → clashing ms (names_of r) ≡ clashes n qs (key_of r)
 unfolding clashing clashes
-clashing_is n ms qs r few w b h = elim (ℕ_discrete (le16 r 6) 65535) [
+clashing_is n ms qs r w b h = elim (ℕ_discrete (le16 r 6) 65535) [
   | yes e ↦ simp (colour_names r, colour_key r, eq-eqb (le16 r 6) 65535 e)
-  | no e ↦ simp (colour_names r, colour_key r, ne_eqb (le16 r 6) 65535 e, marked_any n ms qs (le16 r 6) few w b (omega arith) r)
+  | no e ↦ simp (colour_names r, colour_key r, ne_eqb (le16 r 6) 65535 e, marked_any n ms qs (le16 r 6) w b (omega arith) r)
 ]
 
 -- ---- the marks after
 
-with_size : (n : ℕ) (ms : List ℕ) (m id : ℕ) → length (mark_with n ms m id) ≡ length ms
+with_size : (ms : List ℕ) (m : ℕ) (id : Option ℕ) → length (mark_with ms m id) ≡ length ms
 unfolding mark_with
-with_size n ms m id = go (ltb id n)
+with_size ms m None = refl
+with_size ms m (Some id) = go (ltb id (length ms))
   where
     go : (t : Bool) → length (cond t (set ms id m) ms) ≡ length ms
     go true = length-set ms id m
     go false = refl
 
-with_at : (n : ℕ) (ms : List ℕ) (m id p : ℕ) → n ≤ length ms → p < n → get_or (mark_with n ms m id) p 0 ≡ cond (eqb p id) m (get_or ms p 0)
+with_at : (ms : List ℕ) (m : ℕ) (id : Option ℕ) (p : ℕ) → p < length ms → get_or (mark_with ms m id) p 0 ≡ cond (named (eqb p) id) m (get_or ms p 0)
 unfolding mark_with
-with_at n ms m id p h l = elim (ℕ_discrete p id) [
-  | yes e ↦ simp (eq-eqb p id e, lt-ltb id n (omega arith)) (ap (λ (k : ℕ). get_or (set ms id m) k 0) e ∙ get_or-set_same ms id m 0 (omega arith))
-  | no e ↦ simp (ne_eqb p id e) (go (ltb id n) e)
+with_at ms m None p l = refl
+with_at ms m (Some id) p l = elim (ℕ_discrete p id) [
+  | yes e ↦ simp (eq-eqb p id e, lt-ltb id (length ms) (omega arith)) (ap (λ (k : ℕ). get_or (set ms id m) k 0) e ∙ get_or-set_same ms id m 0 (omega arith))
+  | no e ↦ simp (ne_eqb p id e) (go (ltb id (length ms)) e)
 ]
   where
     go : (t : Bool) → (p ≡ id → ⊥) → get_or (cond t (set ms id m) ms) p 0 ≡ get_or ms p 0
     go true e = get_or-set_other ms id p m 0 e
     go false e = refl
 
-all_size : (n : ℕ) (ids ms : List ℕ) (m : ℕ) → length (mark_all n ms m ids) ≡ length ms
+all_size : (ids : List (Option ℕ)) (ms : List ℕ) (m : ℕ) → length (mark_all ms m ids) ≡ length ms
 unfolding mark_all
-all_size n [] ms m = refl
-all_size n (id ∷ ids) ms m = all_size n ids (mark_with n ms m id) m ∙ with_size n ms m id
+all_size [] ms m = refl
+all_size (id ∷ ids) ms m = all_size ids (mark_with ms m id) m ∙ with_size ms m id
 
 cond_or : (t u : Bool) (m x : ℕ) → cond u m (cond t m x) ≡ cond (t || u) m x
 cond_or true true m x = refl
@@ -138,25 +144,25 @@ cond_or true false m x = refl
 cond_or false true m x = refl
 cond_or false false m x = refl
 
-all_at : (n : ℕ) (ids ms : List ℕ) (m p : ℕ) → n ≤ length ms → p < n → get_or (mark_all n ms m ids) p 0 ≡ cond (any_of (eqb p) ids) m (get_or ms p 0)
+all_at : (ids : List (Option ℕ)) (ms : List ℕ) (m p : ℕ) → p < length ms → get_or (mark_all ms m ids) p 0 ≡ cond (any_of (named (eqb p)) ids) m (get_or ms p 0)
 unfolding mark_all any_of
-all_at n [] ms m p h l = refl
-all_at n (id ∷ ids) ms m p h l =
-    all_at n ids (mark_with n ms m id) m p (omega (arith, with_size n ms m id)) l
-    ∙ ap (λ (x : ℕ). cond (any_of (eqb p) ids) m x) (with_at n ms m id p h l)
-    ∙ cond_or (eqb p id) (any_of (eqb p) ids) m (get_or ms p 0)
+all_at [] ms m p l = refl
+all_at (id ∷ ids) ms m p l =
+    all_at ids (mark_with ms m id) m p (omega (arith, with_size ms m id))
+    ∙ ap (λ (x : ℕ). cond (any_of (named (eqb p)) ids) m x) (with_at ms m id p l)
+    ∙ cond_or (named (eqb p) id) (any_of (named (eqb p)) ids) m (get_or ms p 0)
 
-pub marked_row : (n : ℕ) (ms : List ℕ) (qs : List Key) (r : List ℕ) → n ≤ 4096 → Marked n ms qs → Marked n (mark_row n ms (names_of r)) (key_of r ∷ qs)
+pub marked_row : (n : ℕ) (ms : List ℕ) (qs : List Key) (r : List ℕ) → Marked n ms qs → Marked n (mark_row ms (names_of r)) (key_of r ∷ qs)
 unfolding mark_row mark_of
-marked_row n ms qs r h w = elim (ℕ_discrete (le16 r 6) 65535) [
+marked_row n ms qs r w = elim (ℕ_discrete (le16 r 6) 65535) [
   | yes e ↦ record { size = simp (colour_names r, eq-eqb (le16 r 6) 65535 e) w.size; marks = λ p l. simp (colour_names r, colour_key r, eq-eqb (le16 r 6) 65535 e) (w.marks p l) }
   | no e ↦ (
       let z = w.size in
       record {
-        size = simp (colour_names r, ne_eqb (le16 r 6) 65535 e) (all_size n (four (names_of r)) ms (le16 r 6 + 1) ∙ z);
+        size = simp (colour_names r, ne_eqb (le16 r 6) 65535 e) (all_size (names_of r).ids ms (le16 r 6 + 1) ∙ z);
         marks = λ p l. simp (colour_names r, colour_key r, ne_eqb (le16 r 6) 65535 e)
-            (all_at n (four (names_of r)) ms (le16 r 6 + 1) p (omega arith) l
-            ∙ ap (λ (t : Bool). cond t (le16 r 6 + 1) (get_or ms p 0)) (any_named (eqb p) (ne_eqb p 4294967295 (λ y. omega arith)) r)
+            (all_at (names_of r).ids ms (le16 r 6 + 1) p (omega arith)
+            ∙ ap (λ (t : Bool). cond t (le16 r 6 + 1) (get_or ms p 0)) (any_named (eqb p) r)
             ∙ ap (λ (x : ℕ). cond (any_of (eqb p) (key_of r).ids) (le16 r 6 + 1) x) (w.marks p l));
       })
 ]

@@ -1,32 +1,44 @@
 -- What the code returns for one row. Assumes nothing.
-use Prim.Native.Nat.{ℕ, ◌+◌}
-use mathlib.Core.Path.{◌≡◌, refl}
-use mathlib.Core.Bool.{Bool, true, false, ◌||◌}
-use mathlib.Core.List.{List}
-use borrow.Author.Tests.{eq-eqb, ne_eqb}
+use Prim.Native.Nat.{ℕ, ◌+◌, ◌≤◌, ◌<◌}
+use mathlib.Core.Path.{◌≡◌, refl, sym, ap, ◌∙◌}
+use mathlib.Core.Bool.{Bool, ◌||◌}
+use mathlib.Core.List.{List, [], ◌∷◌}
+use lib.ListN.{length, get_or, drop}
+use lib.Seq.{drop-cons}
+use native.Mathlib.Numerals.{add-one}
+use Rattle.std.proofs.lemmas.List.{drop_all}
+use borrow.Author.Tests.{ne_eqb}
+use Rattle.std.specs.Prelude.{Option, None}
+use Rattle.std.specs.List.{list_any}
 use Rattle.clash.specs.declared.Names.{Names}
 use Rattle.clash.specs.Clash.{any_of}
-use Rattle.clash.specs.Marks.{marked_at, clashing, mark_with, mark_all, mark_row}
+use Rattle.clash.specs.Marks.{is_marked, clashing, mark_with, mark_all, mark_row}
 
-or_no : (t : Bool) → (t || false) ≡ t
-or_no true = refl
-or_no false = refl
+any_is : {A : Type 0} (t : A → Bool) (l : List A) → list_any t l ≡ any_of t l
+unfolding any_of
+any_is t [] = refl
+any_is t (x ∷ l) = ap (λ (b : Bool). t x || b) (any_is t l)
 
-module _ (n : ℕ) (ms : List ℕ) (q : Names) where
-  pub overflow_free : q.colour ≡ 65535 → false ≡ clashing n ms q
-  unfolding clashing
-  overflow_free e = simp (eq-eqb q.colour 65535 e)
+pub row_clashing : (ms : List ℕ) (q : Names) {r : Bool} → (q.colour ≡ 65535 → ⊥) → r ≡ list_any (is_marked ms (q.colour + 1)) q.ids → r ≡ clashing ms q
+unfolding clashing
+row_clashing ms q e h = simp (ne_eqb q.colour 65535 e) (h ∙ any_is (is_marked ms (q.colour + 1)) q.ids)
 
-  pub row_clashing : (q.colour ≡ 65535 → ⊥) → (ta tb tc td u v r : Bool) → ta ≡ marked_at n ms (q.colour + 1) q.a → tb ≡ marked_at n ms (q.colour + 1) q.b
-      → tc ≡ marked_at n ms (q.colour + 1) q.c → td ≡ marked_at n ms (q.colour + 1) q.d → u ≡ (tc || td) → v ≡ (tb || u) → r ≡ (ta || v) → r ≡ clashing n ms q
-  unfolding clashing any_of
-  row_clashing e ta tb tc td u v r ea eb ec ed eu ev er = simp (ne_eqb q.colour 65535 e, or_no) (simp (er, ev, eu, ea, eb, ec, ed))
+-- after i of the places: what is left to mark
+pub record Marking (m i : ℕ) (ids : List (Option ℕ)) (old new : List ℕ) : Type 0 where
+  pub left : mark_all new m (drop i ids) ≡ mark_all old m ids
 
-  pub row_kept : q.colour ≡ 65535 → ms ≡ mark_row n ms q
-  unfolding mark_row
-  row_kept e = simp (eq-eqb q.colour 65535 e)
+pub none_yet : (m : ℕ) (ids : List (Option ℕ)) (old : List ℕ) → Marking m 0 ids old old
+none_yet m ids old = record { left = refl }
 
-  pub row_marked : (q.colour ≡ 65535 → ⊥) → (m1 m2 m3 m4 : List ℕ) → m1 ≡ mark_with n ms (q.colour + 1) q.a → m2 ≡ mark_with n m1 (q.colour + 1) q.b
-      → m3 ≡ mark_with n m2 (q.colour + 1) q.c → m4 ≡ mark_with n m3 (q.colour + 1) q.d → m4 ≡ mark_row n ms q
-  unfolding mark_row mark_all
-  row_marked e m1 m2 m3 m4 e1 e2 e3 e4 = simp (ne_eqb q.colour 65535 e) (simp (e4, e3, e2, e1))
+pub one_more : {m i : ℕ} {ids : List (Option ℕ)} {old ms new : List ℕ} → Marking m i ids old ms → i < length ids → new ≡ mark_with ms m (get_or ids i None) → Marking m (i + 1) ids old new
+unfolding mark_all
+one_more {m} {i} {ids} {old} {ms} {new} w h e =
+    let d = drop-cons ids i None h in
+    let l : mark_all ms m (get_or ids i None ∷ drop (i + 1) ids) ≡ mark_all old m ids = rw (add-one, ← d) w.left in
+    record { left = ap (λ (x : List ℕ). mark_all x m (drop (i + 1) ids)) e ∙ l }
+
+pub all_marked : (q : Names) {i : ℕ} {old ms : List ℕ} → (q.colour ≡ 65535 → ⊥) → Marking (q.colour + 1) i q.ids old ms → length q.ids ≤ i → ms ≡ mark_row old q
+unfolding mark_row mark_all
+all_marked q {i} {old} {ms} e w h =
+    let l : mark_all ms (q.colour + 1) [] ≡ mark_all old (q.colour + 1) q.ids = rw (drop_all i q.ids h) at w.left in
+    l ∙ sym (simp (ne_eqb q.colour 65535 e) refl)

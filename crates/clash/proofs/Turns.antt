@@ -1,20 +1,22 @@
 -- The loop of the clash test, one row a turn. Assumes nothing.
-use Prim.Native.Nat.{ℕ, ◌+◌, ◌-◌, ◌≤◌, ◌<◌}
-use mathlib.Core.Path.{◌≡◌, sym, ap, ◌∙◌, subst}
-use mathlib.Core.Bool.{Bool, true, false}
+use Prim.Native.Nat.{ℕ, suc, ◌+◌, ◌-◌, ◌≤◌, ◌<◌}
+use mathlib.Core.Path.{◌≡◌, refl, sym, ap, ◌∙◌, subst}
+use mathlib.Core.Bool.{Bool}
 use mathlib.Core.List.{List, [], ◌∷◌}
 use native.Mathlib.Omega.{arith}
 use native.Mathlib.Nat.{sub-zero}
-use lib.ListN.{length, replicate}
+use lib.ListN.{length, take, replicate}
+use Rattle.std.specs.Prelude.{Result, Ok, Err}
 use Rattle.little_endian.specs.Bytes.{le16, le32}
 use Rattle.little_endian.proofs.Parts.{Bytes, le16_small, le16_part}
 use Rattle.records.specs.declared.Due.TheVariants.{Row}
-use Rattle.records.specs.declared.Answer.{Answer}
-use Rattle.records.specs.Answers.{first_of, Passed, refuse_if}
+use Rattle.records.specs.declared.Refusal.TheVariants.{Clash}
+use Rattle.records.specs.declared.Refused.{Refused}
+use Rattle.records.specs.Answers.{refuse, outcome, Passed}
 use Rattle.records.specs.Fields.{fields}
 use Rattle.records.specs.Records.{record_length, record_at, record_tests, records_tests}
 use Rattle.records.proofs.Rest.{Rest, rest_begin, rest_again, rest_stops, rest_ends, sub_turn}
-use Rattle.records.proofs.Firsts.{passed_split}
+use Rattle.records.proofs.Firsts.{◌and_then◌, outcome_append, passed_split}
 use Rattle.records.proofs.ByKind.{Kind, a_scalar, a_corotational, a_neo_hookean}
 use Rattle.records.proofs.Shapes.{Shaped, record_passed, kind_of, kind_record}
 use Rattle.records.proofs.Values.{row_last}
@@ -50,8 +52,8 @@ pub record Seen : Type 0 where
 abbrev pub seen : ℕ → List Key → Seen
 seen o ks = record { off = o; keys = ks }
 
-abbrev pub clashed : ℕ → List ℕ → ℕ → Seen → Answer
-clashed n s k a = first_of (clash_tests n k s a.off a.keys)
+abbrev pub clashed : ℕ → List ℕ → ℕ → Seen → Result Unit Refused
+clashed n s k a = outcome (clash_tests n k s a.off a.keys)
 
 -- before turn i of k the row at off comes, after rows of these keys, and the rest of the rows pass their own tests
 pub record Clashing (n : ℕ) (s : List ℕ) (k at₀ i off : ℕ) (ms : List ℕ) : Type 0 where
@@ -62,7 +64,7 @@ pub record Clashing (n : ℕ) (s : List ℕ) (k at₀ i off : ℕ) (ms : List �
   pub marked : Marked n ms keys
   pub falling : Below keys last
 
-pub begins : (n : ℕ) (s : List ℕ) (k at₀ : ℕ) → n ≤ 4096 → Passed (records_tests Row k s at₀ 0) → Clashing n s k at₀ 0 at₀ (replicate 4096 0)
+pub begins : (n : ℕ) (s : List ℕ) (k at₀ : ℕ) → n ≤ 4096 → Passed (records_tests Row k s at₀ 0) → Clashing n s k at₀ 0 at₀ (take n (replicate 4096 0))
 begins n s k at₀ h p = record {
   keys = [];
   last = 0;
@@ -92,31 +94,34 @@ module _ {n : ℕ} {s : List ℕ} {k at₀ i off : ℕ} {ms : List ℕ} (w : Cla
   small : Bytes s → le16 (record_at s off) 6 < 65536
   small y = omega (arith, row_colour_lem s off w.last here.0, le16_small s y (off + 6))
 
-  clash_here : n ≤ 4096 → Bytes s → clashing n ms (names_of (record_at s off)) ≡ clashes n w.keys (key_of (record_at s off))
-  clash_here few y = clashing_is n ms w.keys (record_at s off) few w.marked (below_more w.keys w.last _ w.falling rises) (small y)
+  clash_here : Bytes s → clashing ms (names_of (record_at s off)) ≡ clashes n w.keys (key_of (record_at s off))
+  clash_here y = clashing_is n ms w.keys (record_at s off) w.marked (below_more w.keys w.last _ w.falling rises) (small y)
 
-  module _ (few : n ≤ 4096) (y : Bytes s) (b : List ℕ) (e : b ≡ record_at s off) (q : Names) (eq : q ≡ names_of b) (t : Bool) (et : t ≡ clashing n ms q) where
+  -- t is whether the row clashes, and u what comes of it
+  module _ (y : Bytes s) (b : List ℕ) (e : b ≡ record_at s off) (q : Names) (eq : q ≡ names_of b) (t : Bool) (et : t ≡ clashing ms q) (u : Result Unit Refused) (eu : u ≡ outcome (refuse Clash off t)) where
     same : t ≡ clashes n w.keys (key_of (record_at s off))
-    same = et ∙ ap (clashing n ms) (eq ∙ ap names_of e) ∙ clash_here few y
+    same = et ∙ ap (clashing ms) (eq ∙ ap names_of e) ∙ clash_here y
 
-    pub refuses : {r : Answer} → t ≡ true → r ≡ refuse_if true 9 off → r ≡ first_of (clash_tests n k s at₀ [])
-    unfolding clash_tests first_of refuse_if
-    refuses z f = f ∙ rest_stops w.going h (λ j. simp (sym same ∙ z))
+    one : (j : ℕ) → clashed n s (suc j) (seen off w.keys) ≡ (u and_then clashed n s j (seen (off + record_length s off) (key_of (record_at s off) ∷ w.keys)))
+    unfolding clash_tests
+    one j = outcome_append (refuse Clash off (clashes n w.keys (key_of (record_at s off)))) _ ∙ simp (← same, ← eu) refl
 
-    pub again : (ms' : List ℕ) (off' : ℕ) → t ≡ false → ms' ≡ mark_row n ms q → off' ≡ off + record_length s off → Clashing n s k at₀ (i + 1) off' ms'
-    unfolding clash_tests first_of
-    again ms' off' z m o =
+    pub refuses : (x : Refused) → u ≡ Err x → Err x ≡ outcome (clash_tests n k s at₀ [])
+    refuses x z = rest_stops w.going h (λ j. one j ∙ simp z)
+
+    pub again : (v : Unit) (ms' : List ℕ) (off' : ℕ) → u ≡ Ok v → ms' ≡ mark_row ms q → off' ≡ off + record_length s off → Clashing n s k at₀ (i + 1) off' ms'
+    again v ms' off' z m o =
         record {
           keys = key_of (record_at s off) ∷ w.keys;
           last = le16 s (off + 6);
-          going = rest_again (seen off' (key_of (record_at s off) ∷ w.keys)) w.going h (λ j. simp (sym same ∙ z, o));
+          going = rest_again (seen off' (key_of (record_at s off) ∷ w.keys)) w.going h (λ j. one j ∙ simp (z, o));
           left = subst (λ (x : ℕ). Passed (records_tests Row (k - (i + 1)) s x (le16 s (off + 6)))) (sym o) turn.1;
-          marked = subst (λ (l : List ℕ). Marked n l (key_of (record_at s off) ∷ w.keys)) (sym (m ∙ ap (mark_row n ms) (eq ∙ ap names_of e)))
-              (marked_row n ms w.keys (record_at s off) few w.marked);
+          marked = subst (λ (l : List ℕ). Marked n l (key_of (record_at s off) ∷ w.keys)) (sym (m ∙ ap (mark_row ms) (eq ∙ ap names_of e)))
+              (marked_row n ms w.keys (record_at s off) w.marked);
           falling = below_cons (key_of (record_at s off)) w.keys w.last (le16 s (off + 6)) w.falling
               (omega (arith, colour_key (record_at s off), rises)) (omega (arith, colour_key (record_at s off), row_colour_lem s off w.last here.0));
         }
 
-pub ends : {n : ℕ} {s : List ℕ} {k at₀ i off : ℕ} {ms : List ℕ} {r : Answer} → Clashing n s k at₀ i off ms → k ≤ i → r ≡ refuse_if false 0 0 → r ≡ first_of (clash_tests n k s at₀ [])
-unfolding clash_tests first_of refuse_if
-ends w h e = e ∙ rest_ends w.going h
+pub ends : {n : ℕ} {s : List ℕ} {k at₀ i off : ℕ} {ms : List ℕ} → Clashing n s k at₀ i off ms → k ≤ i → Ok tt ≡ outcome (clash_tests n k s at₀ [])
+unfolding clash_tests outcome
+ends w h = rest_ends w.going h

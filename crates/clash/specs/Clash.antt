@@ -2,7 +2,8 @@
 use Rattle.std.specs.Prelude.{ℕ, zero, suc, ◌+◌, Bool, false, cond, not, ◌&&◌, ◌||◌, List, [], ◌∷◌, take, ltb, eqb}
 use Rattle.little_endian.specs.Bytes.{le16, le32}
 use Rattle.records.specs.Layout.{kind_at, row_colour, scalar_count, row_ids}
-use Rattle.records.specs.Answers.{Test, ◌then◌, refuse, clash}
+use Rattle.records.specs.declared.Refusal.TheVariants.{Clash}
+use Rattle.records.specs.Answers.{Test, ◌then◌, refuse}
 use Rattle.records.specs.Records.{record_length, record_at}
 
 -- the colour of the overflow
@@ -39,5 +40,5 @@ clashes N before q = not (eqb q.colour overflow) && any_of (λ x. ltb x N && any
 unfoldable pub clash_tests : ℕ → ℕ → List ℕ → ℕ → List Key → List Test
 clash_tests N zero s off before = []
 clash_tests N (suc k) s off before =
-    refuse clash off (clashes N before (key_of (record_at s off)))
+    refuse Clash off (clashes N before (key_of (record_at s off)))
     then clash_tests N k s (off + record_length s off) (key_of (record_at s off) ∷ before)

@@ -1,132 +1,124 @@
 // The clash test: in one pass, by a mark for each point.
 #![tactic(auto)]
 
-ghost use Rattle.std.specs.Prelude.{◌≡◌, [], ℕ, ◌+◌, ◌≤◌, ◌<◌, length};
+ghost use Rattle.std.specs.Prelude.{◌≡◌, [], ℕ, ◌+◌, ◌*◌, ◌≤◌, ◌<◌, length, ltb};
 ghost use Rattle.little_endian.specs.Bytes.{le32};
-ghost use Rattle.records.specs.Answers.{first_of, Passed};
+ghost use Rattle.records.specs.Answers.{outcome, Passed};
+ghost use Rattle.records.specs.Layout.{row_ids};
 ghost use Rattle.records.specs.Records.{records_tests};
-ghost use Rattle.clash.specs.Clash.{count_of, clash_tests};
-ghost use Rattle.clash.specs.Marks.{placed, names_of, marked_at, clashing, mark_with, mark_row};
 ghost use Rattle.records.specs.declared.Due as due;
+ghost use Rattle.clash.specs.Clash.{count_of, clash_tests};
+ghost use Rattle.clash.specs.Marks.{placed, names_of, is_marked, clashing, mark_with, mark_row};
 
-use records::{Answer, layout};
+use records::{Refusal, Refused, RowKind, layout};
 
-// A row's colour and the ids at its four places.
+// The colour of the overflow, whose rows may name what others name.
+const OVERFLOW: u16 = 65535;
+
+// A row's colour, and the ids at its four places, as far as it names them.
 #[derive(Clone, Copy)]
 pub struct Names {
     pub colour: u16,
-    pub a: u32,
-    pub b: u32,
-    pub c: u32,
-    pub d: u32,
-}
-
-fn id_at(b: &[u8], k: usize, named: bool) -> u32
-    requires { k + 4 ≤ length b.now }
-    ensures { result ≡ placed named (le32 b.now k) }
-{
-    let id = little_endian::get_u32(b, k);
-    if named {
-        return id;
-    }
-    4294967295
+    pub ids: [Option<u32>; 4],
 }
 
 // How many ids a row names.
+#[tactic(auto, unfolding(crate::specs::Clash::count_of))]
 pub fn count_of(b: &[u8]) -> u16
     requires { 30 ≤ length b.now }
     ensures { result ≡ count_of b.now }
 {
-    let n = little_endian::get_u16(b, layout::SCALAR_COUNT);
-    if little_endian::get_u16(b, layout::KIND_AT) == 3 {
-        return n;
+    match RowKind::of(b) {
+        RowKind::Scalar => little_endian::get_u16(b, layout::SCALAR_COUNT),
+        RowKind::Corotational | RowKind::NeoHookean => 4,
     }
-    4
 }
 
+// The id at place i of a row that names count.
+#[tactic(auto, unfolding(crate::specs::Marks::placed))]
+fn id_at(b: &[u8], i: u16, count: u16) -> Option<u32>
+    requires { (i < 4) × (30 ≤ length b.now) }
+    ensures { result ≡ placed (ltb i count) (le32 b.now (row_ids + 4 * i)) }
+{
+    if i < count {
+        return Some(little_endian::get_u32(b, layout::ROW_IDS + 4 * (i as usize)));
+    }
+    None
+}
+
+#[tactic(auto, unfolding(crate::specs::Marks::names_of))]
 fn names_of(b: &[u8]) -> Names
     requires { 30 ≤ length b.now }
     ensures { result ≡ names_of b.now }
 {
-    let n = count_of(b);
+    let count = count_of(b);
     Names {
         colour: little_endian::get_u16(b, layout::ROW_COLOUR),
-        a: id_at(b, layout::ROW_IDS, 0 < n),
-        b: id_at(b, layout::ROW_IDS + 4, 1 < n),
-        c: id_at(b, layout::ROW_IDS + 8, 2 < n),
-        d: id_at(b, layout::ROW_IDS + 12, 3 < n),
+        ids: [
+            id_at(b, 0, count),
+            id_at(b, 1, count),
+            id_at(b, 2, count),
+            id_at(b, 3, count),
+        ],
     }
 }
 
-fn marked_at(n: usize, marks: &[u32; 4096], m: u32, id: u32) -> bool
-    requires { n ≤ 4096 }
-    ensures { result ≡ marked_at n marks.now m id }
-{
-    let i = id as usize;
-    if i < n {
-        return marks[i] == m;
-    }
-    false
-}
+// ---- the marks, one for each point: the colour of the row that named it last, plus 1; 0 where none did
 
-fn clashing_at(n: usize, marks: &[u32; 4096], q: Names) -> bool
-    requires { n ≤ 4096 }
-    ensures { result ≡ clashing n marks.now q }
+#[tactic(auto, unfolding(crate::specs::Marks::marked_at))]
+fn is_marked(marks: &[u32], mark: u32, id: Option<u32>) -> bool
+    ensures { result ≡ is_marked marks.now mark id }
 {
-    if q.colour == 65535 {
-        return false;
-    }
-    let m = (q.colour as u32) + 1;
-    records::either(
-        marked_at(n, marks, m, q.a),
-        records::either(
-            marked_at(n, marks, m, q.b),
-            records::either(marked_at(n, marks, m, q.c), marked_at(n, marks, m, q.d)),
-        ),
-    )
-}
-
-fn mark(n: usize, marks: &mut [u32; 4096], m: u32, id: u32)
-    requires { n ≤ 4096 }
-    ensures { marks.new ≡ mark_with n marks.old m id }
-{
-    let i = id as usize;
-    if i < n {
-        marks[i] = m;
+    match id {
+        Some(id) => (id as usize) < marks.len() && marks[id as usize] == mark,
+        None => false,
     }
 }
 
-fn mark_row(n: usize, marks: &mut [u32; 4096], q: Names)
-    requires { n ≤ 4096 }
-    ensures { marks.new ≡ mark_row n marks.old q }
+#[tactic(auto, unfolding(crate::specs::Marks::clashing))]
+fn is_clashing(marks: &[u32], q: Names) -> bool
+    ensures { result ≡ clashing marks.now q }
 {
-    if q.colour != 65535 {
-        let m = (q.colour as u32) + 1;
-        mark(n, marks, m, q.a);
-        mark(n, marks, m, q.b);
-        mark(n, marks, m, q.c);
-        mark(n, marks, m, q.d);
+    let mark = (q.colour as u32) + 1;
+    q.colour != OVERFLOW && q.ids.iter().any(|id| is_marked(marks, mark, *id))
+}
+
+#[tactic(auto, unfolding(crate::specs::Marks::mark_with))]
+fn mark_one(marks: &mut [u32], mark: u32, id: Option<u32>)
+    ensures { marks.new ≡ mark_with marks.old mark id }
+{
+    if let Some(id) = id
+        && (id as usize) < marks.len()
+    {
+        marks[id as usize] = mark;
+    }
+}
+
+#[tactic(auto, unfolding(crate::specs::Marks::mark_row))]
+fn mark_row(marks: &mut [u32], q: Names)
+    ensures { marks.new ≡ mark_row marks.old q }
+{
+    if q.colour != OVERFLOW {
+        for id in q.ids {
+            mark_one(marks, (q.colour as u32) + 1, id);
+        }
     }
 }
 
 // Of k rows that passed their own tests, the first at `at`, the first that clashes with an earlier one.
-pub fn clash_test(n: usize, k: usize, s: &[u8], at: usize) -> Answer
+pub fn clash_test(n: usize, k: usize, s: &[u8], at: usize) -> Result<(), Refused>
     requires { (n ≤ 4096) × Passed (records_tests due.Due.Row k s.now at 0) }
-    ensures { result ≡ first_of (clash_tests n k s.now at []) }
+    ensures { result ≡ outcome (clash_tests n k s.now at []) }
 {
-    let mut marks = [0u32; 4096];
+    let mut all = [0u32; 4096];
+    let marks = &mut all[..n];
     let mut off = at;
-    let mut i: usize = 0;
-    while i < k {
+    for _ in 0..k {
         let b = records::record_at(s, off);
-        let len = b.len();
         let q = names_of(b);
-        if clashing_at(n, &marks, q) {
-            return records::refuse_if(true, 9, off);
-        }
-        mark_row(n, &mut marks, q);
-        off = off + len;
-        i = i + 1;
+        records::refuse(is_clashing(marks, q), Refusal::Clash, off)?;
+        mark_row(marks, q);
+        off += b.len();
     }
-    records::refuse_if(false, 0, 0)
+    Ok(())
 }

@@ -7,14 +7,14 @@ use Rattle.vector.specs.Matrix.{transpose, mul_vec, mul_mat, determinant}
 use Rattle.vector.specs.declared.Vec3.{Vec3}
 use Rattle.vector.specs.declared.Mat3.{Mat3}
 use Rattle.vector.specs.declared.Four.{Four}
-use Rattle.places.specs.Places.{Holds, Masses}
+use Rattle.places.specs.Places.{Holds, Masses, rate_of}
+use Rattle.places.specs.declared.Solved.{Solved}
 use Rattle.strain.specs.Six.{add6, sub6, scale6, component_mul6, dot6}
 use Rattle.strain.specs.Matrix.{mat_vec}
 use Rattle.linalg.specs.Products.{cofactor}
 use Rattle.cell.specs.Strain.{strain_rows_of, outer_sum}
 use Rattle.cell.specs.Cell.{capped, strain_rates, volume_losses}
 use Rattle.cell.specs.declared.Impulses.{Impulses}
-use Rattle.cell.specs.declared.Solved.{Solved}
 use Rattle.corotational.specs.declared.Springs.{Springs}
 use Rattle.corotational.specs.declared.Volume.{Volume}
 
@@ -71,14 +71,6 @@ update_volume invRest coeffs im s invA rot inverted f =
 
 -- ---- solve
 
--- r and g·v, where the place is named
-abbrev pub add_rate : Float → Vec3 → Held → Float
-add_rate r g h = cond h.named (r ⊕ v.dot g h.value) r
-
--- Σ g_p·v_p
-unfoldable pub volume_rate : Four Vec3 → Holds → Float
-volume_rate g vel = add_rate (add_rate (add_rate (add_rate f0 g.a vel.a) g.b vel.b) g.c vel.c) g.d vel.d
-
 -- rate + erp strain - cfm impulse
 unfoldable pub residual : List Float → List Float → List Float → List Float → List Float → List Float
 residual erp cfm strain impulse rate = sub6 (add6 rate (component_mul6 erp strain)) (component_mul6 cfm impulse)
@@ -92,22 +84,22 @@ unfoldable pub volume_step : Volume → Float → Float → List Float → Float
 volume_step u impulse rate y = u.inv_s ⊗ (u.rhs_vol ⊖ u.cfm_gain_vol ⊗ impulse ⊕ rate ⊖ dot6 u.b y)
 
 -- impulses d and x more, and what each place is to lose for them
-unfoldable pub applied : Mat3 → Four Vec3 → Masses → Impulses → List Float → Four Vec3 → Float → Solved
+unfoldable pub applied : Mat3 → Four Vec3 → Masses → Impulses → List Float → Four Vec3 → Float → Solved Impulses
 applied rot coeffs im l d grad x =
-    record { impulses = record { strain = add6 l.strain d; vol = l.vol ⊕ x }; loss = volume_losses rot coeffs im d grad x }
+    record { state = record { strain = add6 l.strain d; vol = l.vol ⊕ x }; loss = volume_losses rot coeffs im d grad x }
 
 -- the volumetric row first, then the strain rows, which would take y, corrected by the coupling
-unfoldable pub solve_rows : Mat3 → Four Vec3 → Masses → Impulses → Volume → Holds → List Float → Solved
+unfoldable pub solve_rows : Mat3 → Four Vec3 → Masses → Impulses → Volume → Holds → List Float → Solved Impulses
 solve_rows rot coeffs im l u vel y =
-    let x = volume_step u l.vol (volume_rate u.grad_vol vel) y in
+    let x = volume_step u l.vol (rate_of u.grad_vol vel) y in
     applied rot coeffs im l (sub6 y (scale6 u.z x)) u.grad_vol x
 
-unfoldable pub solve_corotational : Mat3 → Four Vec3 → Masses → List Float → List Float → List Float → List Float → Impulses → Volume → Holds → Solved
+unfoldable pub solve_corotational : Mat3 → Four Vec3 → Masses → List Float → List Float → List Float → List Float → Impulses → Volume → Holds → Solved Impulses
 solve_corotational rot coeffs im strain invA erp cfm l u vel = solve_rows rot coeffs im l u vel (strain_step rot coeffs strain invA erp cfm l.strain vel)
 
 -- the warm start: both impulses times the coefficient, and what each place is to lose for them
-unfoldable pub warmstart_corotational : Mat3 → Four Vec3 → Masses → Impulses → Four Vec3 → Float → Solved
+unfoldable pub warmstart_corotational : Mat3 → Four Vec3 → Masses → Impulses → Four Vec3 → Float → Solved Impulses
 warmstart_corotational rot coeffs im l grad coeff =
     let strain = scale6 l.strain coeff in
     let vol = l.vol ⊗ coeff in
-    record { impulses = record { strain = strain; vol = vol }; loss = volume_losses rot coeffs im strain grad vol }
+    record { state = record { strain = strain; vol = vol }; loss = volume_losses rot coeffs im strain grad vol }

@@ -3,7 +3,7 @@ use Rattle.std.specs.Prelude.{Float}
 use Rattle.places.specs.Places.{Holds, refreshed}
 use Rattle.cell.specs.Cell.{deformation_gradient, posed}
 use Rattle.cell.specs.declared.Impulses.{Impulses}
-use Rattle.cell.specs.declared.Solved.{Solved}
+use Rattle.places.specs.declared.Solved.{Solved}
 use Rattle.corotational.specs.Corotational.{update_volume, solve_corotational, warmstart_corotational}
 use Rattle.corotational.specs.declared.CorotationalRow.{CorotationalRow}
 
@@ -27,10 +27,10 @@ abbrev pub with_impulses : CorotationalRow → Impulses → CorotationalRow
 with_impulses r l = record { cell = r.cell; pose = r.pose; compliance = r.compliance; impulses = l; springs = r.springs; volume = r.volume }
 
 -- the impulses anew, and what each place is to lose
-unfoldable pub solve : CorotationalRow → Holds → Solved
+unfoldable pub solve : CorotationalRow → Holds → Solved Impulses
 solve r vel =
     solve_corotational r.pose.rot_mat r.cell.coeffs r.cell.im r.pose.strain r.compliance.inv_a r.springs.erp_strain r.springs.cfm_strain
     r.impulses r.volume vel
 
-unfoldable pub warmstart : CorotationalRow → Float → Solved
+unfoldable pub warmstart : CorotationalRow → Float → Solved Impulses
 warmstart r coeff = warmstart_corotational r.pose.rot_mat r.cell.coeffs r.cell.im r.impulses r.volume.grad_vol coeff

@@ -5,7 +5,7 @@ pub mod block; // the warm start and the solve
 pub mod volumetric; // the update of the volumetric row
 
 use cell::{Cell, Compliance, Impulses, Pose};
-use vector::Four;
+use vector::{Four, Vec3};
 
 // Corotational: what no step alters.
 #[repr(C)]
@@ -23,7 +23,7 @@ pub struct Springs {
 #[repr(C)]
 #[derive(Clone, Copy)]
 pub struct Volume {
-    pub grad_vol: Four,
+    pub grad_vol: Four<Vec3>,
     pub cfm_gain_vol: f32,
     pub rhs_vol: f32,
     pub b: [f32; 6],

@@ -3,96 +3,88 @@ ghost use Rattle.std.specs.Prelude.{◌≡◌};
 ghost use Rattle.corotational.specs.Corotational as spec;
 
 use crate::{Springs, Volume};
-use cell::Compliance;
-use cell::tensor::{outer_sum, strain_rows_of};
+use cell::tensor::{outer_sum, strain_rows_of, weighted};
 use cell::update::capped;
+use cell::{Compliance, StrainRows};
 use places::Masses;
 use strain::{dot6, mat_vec};
-use vector::{Four, Mat3, Vec3, length_squared, matrix, sub};
+use vector::{Four, Mat3, Vec3};
 
-fn volumetric_gradient(f: Mat3, inv_rest: Mat3) -> Four
+#[tactic(auto, unfolding(crate::specs::Corotational::volumetric_gradient))]
+fn volumetric_gradient(f: Mat3, inv_rest: Mat3) -> Four<Vec3>
     ensures { result ≡ spec.volumetric_gradient f inv_rest }
 {
-    let g = matrix::mul_mat(linalg::cofactor(f), matrix::transpose(inv_rest));
-    let b = g.x;
-    let c = g.y;
-    let d = g.z;
-    let a = sub(sub(sub(vector::zero_vector(), b), c), d);
-    Four { a, b, c, d }
-}
-
-fn volume_weight(g: Four, im: Masses) -> f32
-    ensures { result ≡ spec.volume_weight g im }
-{
-    0.0 + im.a * length_squared(g.a)
-        + im.b * length_squared(g.b)
-        + im.c * length_squared(g.c)
-        + im.d * length_squared(g.d)
-}
-
-fn turned_back(inv_rot: Mat3, g: Vec3, w: f32) -> Vec3
-    ensures { result ≡ spec.turned_back inv_rot g w }
-{
-    vector::scale(matrix::mul_vec(inv_rot, g), w)
-}
-
-fn turned_gradients(rot: Mat3, g: Four, im: Masses) -> Four
-    ensures { result ≡ spec.turned_gradients rot g im }
-{
-    let inv_rot = matrix::transpose(rot);
+    let g = linalg::cofactor(f) * inv_rest.transpose();
     Four {
-        a: turned_back(inv_rot, g.a, im.a),
-        b: turned_back(inv_rot, g.b, im.b),
-        c: turned_back(inv_rot, g.c, im.c),
-        d: turned_back(inv_rot, g.d, im.d),
+        a: Vec3::zero() - g.x - g.y - g.z,
+        b: g.x,
+        c: g.y,
+        d: g.z,
     }
 }
 
-fn coupling(rot: Mat3, g: Four, im: Masses, coeffs: Four) -> [f32; 6]
-    ensures { result ≡ spec.coupling rot g im coeffs }
+#[tactic(auto, unfolding(crate::specs::Corotational::volume_weight))]
+fn volume_weight(g: Four<Vec3>, im: Masses) -> f32
+    ensures { result ≡ spec.volume_weight g im }
 {
-    strain_rows_of(outer_sum(turned_gradients(rot, g, im), coeffs))
+    0.0 + im.a * g.a.length_squared()
+        + im.b * g.b.length_squared()
+        + im.c * g.c.length_squared()
+        + im.d * g.d.length_squared()
 }
 
+#[tactic(auto, unfolding(crate::specs::Corotational::turned_gradients, crate::specs::Corotational::turned_back, cell::specs::Strain::weighted))]
+fn turned_gradients(rot: Mat3, g: Four<Vec3>, im: Masses) -> Four<Vec3>
+    ensures { result ≡ spec.turned_gradients rot g im }
+{
+    let inv_rot = rot.transpose();
+    weighted(g.map(|g| inv_rot * g), im)
+}
+
+#[tactic(auto, unfolding(crate::specs::Corotational::coupling))]
+fn coupling(rows: StrainRows, g: Four<Vec3>) -> [f32; 6]
+    ensures { result ≡ spec.coupling rows.rot g rows.im rows.coeffs }
+{
+    strain_rows_of(outer_sum(turned_gradients(rows.rot, g, rows.im), rows.coeffs))
+}
+
+#[tactic(auto, unfolding(crate::specs::Corotational::volume_bias))]
 fn volume_bias(s: Springs, inverted: bool, f: Mat3) -> f32
     ensures { result ≡ spec.volume_bias s inverted f }
 {
-    capped(inverted, matrix::determinant(f) - 1.0, s.vol_cap) * s.erp_vol
+    capped(inverted, f.determinant() - 1.0, s.vol_cap) * s.erp_vol
 }
 
+#[tactic(auto, unfolding(crate::specs::Corotational::inv_schur))]
 fn inv_schur(volumetric: bool, w: f32, gain: f32, b: &[f32; 6], z: &[f32; 6]) -> f32
     ensures { result ≡ spec.inv_schur volumetric w gain b.now z.now }
 {
     real::pick(volumetric, real::inv(w + gain - dot6(b, z)), 0.0)
 }
 
-// With f the deformation gradient, and rot and `inverted` those of the same update.
+// With f the deformation gradient, and the rows' rotation and `inverted` those of the same update.
+#[tactic(auto, unfolding(crate::specs::Corotational::update_volume))]
 pub fn update_volume(
+    rows: StrainRows,
     inv_rest: Mat3,
-    coeffs: Four,
-    im: Masses,
     s: Springs,
     k: Compliance,
-    rot: Mat3,
     inverted: bool,
     f: Mat3,
 ) -> Volume
-    ensures { result ≡ spec.update_volume inv_rest coeffs im s k.inv_a rot inverted f }
+    ensures { result ≡ spec.update_volume inv_rest rows.coeffs rows.im s k.inv_a rows.rot inverted f }
 {
-    let inv_a = k.inv_a;
     let grad_vol = volumetric_gradient(f, inv_rest);
-    let w = volume_weight(grad_vol, im);
+    let w = volume_weight(grad_vol, rows.im);
     let cfm_gain_vol = w * s.cfm_coeff_vol;
-    let b = coupling(rot, grad_vol, im, coeffs);
-    let z = mat_vec(&inv_a, &b);
-    let rhs_vol = volume_bias(s, inverted, f);
-    let inv_s = inv_schur(s.volumetric, w, cfm_gain_vol, &b, &z);
+    let b = coupling(rows, grad_vol);
+    let z = mat_vec(&k.inv_a, &b);
     Volume {
         grad_vol,
         cfm_gain_vol,
-        rhs_vol,
+        rhs_vol: volume_bias(s, inverted, f),
         b,
         z,
-        inv_s,
+        inv_s: inv_schur(s.volumetric, w, cfm_gain_vol, &b, &z),
     }
 }

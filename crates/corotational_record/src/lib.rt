@@ -6,56 +6,52 @@ ghost use Rattle.std.specs.Prelude.{◌≡◌, ◌≤◌, length};
 ghost use Rattle.records.specs.Layout as at;
 ghost use Rattle.cell.specs.Cell as cell;
 ghost use Rattle.corotational.specs.Row as c;
-ghost use Rattle.floats.specs.Written.{AllWritten, Kept};
-ghost use Rattle.stored.specs.Read.{compliance_of, springs_of, volume_of, corotational_of};
+ghost use Rattle.floats.specs.Written.{Kept};
+ghost use Rattle.stored.specs.Read.{springs_of, volume_of, corotational_of};
 ghost use Rattle.stored.specs.Put.{put_flag, put_pose, put_volume};
 ghost use Rattle.corotational_record.specs.Parts.{volume_anew, strain_step_at};
 
-use cell::{Compliance, Pose, Solved};
-use cell_record::impulses_of;
+use cell::{Impulses, Pose, StrainRows};
+use cell_record::{compliance_of, impulses_of, strain_rows};
 use corotational::{Springs, Volume};
-use floats::{f32_at, floats6_at, floats36_at, four_at, masses_at, mat3_at, put_f32};
-use places::Holds;
+use floats::Field;
+use floats::row_bytes::RowBytes;
+use places::{Holds, Solved};
 use records::layout;
-use vector::{Four, Mat3};
+use vector::Mat3;
+
+// The bytes of a corotational row.
+pub type Bytes<'a> = RowBytes<'a, { layout::CORO_END }>;
 
 // ---- update
 
-fn springs_of(b: &[u8]) -> Springs
-    requires { (618 ≤ length b.now) × AllWritten b.now }
-    ensures { result ≡ springs_of b.now }
+#[tactic(auto, unfolding(stored::specs::Read::springs_of))]
+fn springs_of(b: Bytes) -> Springs
+    ensures { result ≡ springs_of b.entry.bytes.now }
 {
-    let erp_strain = floats6_at(b, layout::CORO_ERP_STRAIN);
-    let cfm_strain = floats6_at(b, layout::CORO_CFM_STRAIN);
     Springs {
-        erp_strain,
-        cfm_strain,
-        erp_vol: f32_at(b, layout::CORO_ERP_VOL),
-        cfm_coeff_vol: f32_at(b, layout::CORO_CFM_COEFF_VOL),
-        vol_cap: f32_at(b, layout::CORO_VOL_CAP),
-        volumetric: little_endian::get_u16(b, layout::ELASTIC_FOURTH) == 1,
+        erp_strain: b.get(layout::CORO_ERP_STRAIN),
+        cfm_strain: b.get(layout::CORO_CFM_STRAIN),
+        erp_vol: b.get(layout::CORO_ERP_VOL),
+        cfm_coeff_vol: b.get(layout::CORO_CFM_COEFF_VOL),
+        vol_cap: b.get(layout::CORO_VOL_CAP),
+        volumetric: b.get_u16(layout::ELASTIC_FOURTH) == 1,
     }
 }
 
-fn compliance_of(b: &[u8]) -> Compliance
-    requires { (618 ≤ length b.now) × AllWritten b.now }
-    ensures { result ≡ compliance_of b.now }
-{
-    let inv_a = floats36_at(b, layout::ELASTIC_INV_A);
-    Compliance { inv_a }
-}
-
 // With f the deformation gradient, and rot and `inverted` those of the same update.
-fn volume_anew(b: &[u8], rot: Mat3, inverted: bool, f: Mat3) -> Volume
-    requires { (618 ≤ length b.now) × AllWritten b.now }
-    ensures { result ≡ volume_anew rot inverted f b.now }
+#[tactic(auto, unfolding(
+    crate::specs::Parts::volume_anew,
+    cell_record::specs::Rows::strain_rows,
+))]
+fn volume_anew(b: Bytes, rot: Mat3, inverted: bool, f: Mat3) -> Volume
+    ensures { result ≡ volume_anew rot inverted f b.entry.bytes.now }
 {
-    let inv_rest = mat3_at(b, layout::ELASTIC_INV_REST_MATRIX);
-    let coeffs = four_at(b, layout::ELASTIC_COEFFS);
-    let im = masses_at(b, layout::ROW_IM);
+    let inv_rest = b.get(layout::ELASTIC_INV_REST_MATRIX);
+    let rows = strain_rows(b.at_least(), rot);
     let springs = springs_of(b);
-    let k = compliance_of(b);
-    corotational::volumetric::update_volume(inv_rest, coeffs, im, springs, k, rot, inverted, f)
+    let k = compliance_of(b.at_least());
+    corotational::volumetric::update_volume(rows, inv_rest, springs, k, inverted, f)
 }
 
 // What an update assigns.
@@ -65,97 +61,115 @@ pub struct Update {
     pub volume: Volume,
 }
 
-pub fn updated(b: &[u8], held: Holds) -> Update
-    requires { (618 ≤ length b.now) × AllWritten b.now }
-    ensures { (result.pose ≡ (c.update (corotational_of b.now) held).pose) × (result.volume ≡ (c.update (corotational_of b.now) held).volume) }
+#[tactic(auto, unfolding(
+    corotational::specs::Row::update,
+    stored::specs::Read::cell_of,
+    stored::specs::Read::pose_of,
+    stored::specs::Read::corotational_of,
+    cell_record::specs::Anew::pos_anew,
+    cell_record::specs::Anew::deformation_anew,
+    cell_record::specs::Anew::posed_anew,
+    crate::specs::Parts::volume_anew,
+))]
+pub fn updated(b: Bytes, held: Holds) -> Update
+    ensures pose { result.pose ≡ (c.update (corotational_of b.entry.bytes.now) held).pose }
+    ensures volume { result.volume ≡ (c.update (corotational_of b.entry.bytes.now) held).volume }
 {
-    let pos = cell_record::pos_anew(b, held);
-    let f = cell_record::deformation_anew(b, pos);
-    let pose = cell_record::posed_anew(b, pos, f);
+    let shared = b.at_least();
+    let pos = cell_record::pos_anew(shared, held);
+    let f = cell_record::deformation_anew(shared, pos);
+    let pose = cell_record::posed_anew(shared, pos, f);
     let volume = volume_anew(b, pose.rot_mat, pose.inverted, f);
     Update { pose, volume }
 }
 
+#[tactic(auto, unfolding(stored::specs::Put::put_volume, floats::specs::Fields::put_four))]
 fn put_volume(b: &mut [u8], v: Volume)
     requires { 618 ≤ length b.old }
     ensures { (b.new ≡ put_volume v b.old) × Kept b.old b.new }
 {
-    let coupling = v.b;
-    let z = v.z;
-    floats::put_four(b, layout::CORO_GRAD_VOL, v.grad_vol);
-    put_f32(b, layout::CORO_CFM_GAIN_VOL, v.cfm_gain_vol);
-    put_f32(b, layout::CORO_RHS_VOL, v.rhs_vol);
-    floats::put_floats6(b, layout::CORO_B, &coupling);
-    floats::put_floats6(b, layout::CORO_Z, &z);
-    put_f32(b, layout::CORO_INV_S, v.inv_s);
+    v.grad_vol.put(b, layout::CORO_GRAD_VOL);
+    v.cfm_gain_vol.put(b, layout::CORO_CFM_GAIN_VOL);
+    v.rhs_vol.put(b, layout::CORO_RHS_VOL);
+    v.b.put(b, layout::CORO_B);
+    v.z.put(b, layout::CORO_Z);
+    v.inv_s.put(b, layout::CORO_INV_S);
 }
 
 pub fn put_updated(b: &mut [u8], u: Update, least: f32)
     requires { 618 ≤ length b.old }
     ensures { (b.new ≡ put_flag (put_volume u.volume (put_pose u.pose b.old)) at.row_strained (cell.is_strained u.pose.strain least)) × Kept b.old b.new }
 {
-    let pose = u.pose;
-    let strain = pose.strain;
-    cell_record::put_pose(b, pose);
+    cell_record::put_pose(b, u.pose);
     put_volume(b, u.volume);
-    cell_record::put_strained(b, &strain, least);
+    cell_record::put_strained(b, &u.pose.strain, least);
 }
 
 // ---- warm start
 
-pub fn warmed(b: &[u8], coeff: f32) -> Solved
-    requires { (618 ≤ length b.now) × AllWritten b.now }
-    ensures { result ≡ c.warmstart (corotational_of b.now) coeff }
+#[tactic(auto, unfolding(
+    corotational::specs::Row::warmstart,
+    stored::specs::Read::cell_of,
+    stored::specs::Read::pose_of,
+    stored::specs::Read::volume_of,
+    stored::specs::Read::corotational_of,
+    floats::specs::Fields::four_at,
+    cell_record::specs::Rows::strain_rows,
+))]
+pub fn warmed(b: Bytes, coeff: f32) -> Solved<Impulses>
+    ensures { result ≡ c.warmstart (corotational_of b.entry.bytes.now) coeff }
 {
-    let rot = mat3_at(b, layout::ELASTIC_ROT_MAT);
-    let coeffs = four_at(b, layout::ELASTIC_COEFFS);
-    let im = masses_at(b, layout::ROW_IM);
-    let l = impulses_of(b);
-    let grad = four_at(b, layout::CORO_GRAD_VOL);
-    corotational::block::warmstart_corotational(rot, coeffs, im, l, grad, coeff)
+    let rows = strain_rows(b.at_least(), b.get(layout::ELASTIC_ROT_MAT));
+    let l = impulses_of(b.at_least());
+    let grad = b.get(layout::CORO_GRAD_VOL);
+    corotational::block::warmstart_corotational(rows, l, grad, coeff)
 }
 
 // ---- solve
 
-fn volume_of(b: &[u8]) -> Volume
-    requires { (618 ≤ length b.now) × AllWritten b.now }
-    ensures { result ≡ volume_of b.now }
+#[tactic(auto, unfolding(stored::specs::Read::volume_of, floats::specs::Fields::four_at))]
+fn volume_of(b: Bytes) -> Volume
+    ensures { result ≡ volume_of b.entry.bytes.now }
 {
-    let coupling = floats6_at(b, layout::CORO_B);
-    let z = floats6_at(b, layout::CORO_Z);
     Volume {
-        grad_vol: four_at(b, layout::CORO_GRAD_VOL),
-        cfm_gain_vol: f32_at(b, layout::CORO_CFM_GAIN_VOL),
-        rhs_vol: f32_at(b, layout::CORO_RHS_VOL),
-        b: coupling,
-        z,
-        inv_s: f32_at(b, layout::CORO_INV_S),
+        grad_vol: b.get(layout::CORO_GRAD_VOL),
+        cfm_gain_vol: b.get(layout::CORO_CFM_GAIN_VOL),
+        rhs_vol: b.get(layout::CORO_RHS_VOL),
+        b: b.get(layout::CORO_B),
+        z: b.get(layout::CORO_Z),
+        inv_s: b.get(layout::CORO_INV_S),
     }
 }
 
 // What the strain rows would take if there were no volumetric row.
-fn strain_step(b: &[u8], rot: Mat3, coeffs: Four, impulse: &[f32; 6], vel: Holds) -> [f32; 6]
-    requires { (618 ≤ length b.now) × AllWritten b.now }
-    ensures { result ≡ strain_step_at rot coeffs impulse.now vel b.now }
+#[tactic(auto, unfolding(corotational::specs::Corotational::strain_step, crate::specs::Parts::strain_step_at))]
+fn strain_step(b: Bytes, rows: StrainRows, impulse: &[f32; 6], vel: Holds) -> [f32; 6]
+    ensures { result ≡ strain_step_at rows.rot rows.coeffs impulse.now vel b.entry.bytes.now }
 {
-    let strain = floats6_at(b, layout::ELASTIC_STRAIN);
-    let erp = floats6_at(b, layout::CORO_ERP_STRAIN);
-    let cfm = floats6_at(b, layout::CORO_CFM_STRAIN);
-    let rate = cell::solve::strain_rates(rot, coeffs, vel);
-    let res = corotational::block::residual(&erp, &cfm, &strain, impulse, &rate);
-    cell_record::eased_at(b, &res)
+    let strain = b.get(layout::ELASTIC_STRAIN);
+    let erp = b.get(layout::CORO_ERP_STRAIN);
+    let cfm = b.get(layout::CORO_CFM_STRAIN);
+    let rate = rows.rates(vel);
+    let residual = corotational::block::residual(&erp, &cfm, &strain, impulse, &rate);
+    cell_record::eased_at(b.at_least(), &residual)
 }
 
-pub fn solved(b: &[u8], vel: Holds) -> Solved
-    requires { (618 ≤ length b.now) × AllWritten b.now }
-    ensures { result ≡ c.solve (corotational_of b.now) vel }
+#[tactic(auto, unfolding(
+    corotational::specs::Row::solve,
+    corotational::specs::Corotational::solve_corotational,
+    stored::specs::Read::cell_of,
+    stored::specs::Read::pose_of,
+    stored::specs::Read::springs_of,
+    stored::specs::Read::corotational_of,
+    cell_record::specs::Rows::strain_rows,
+    crate::specs::Parts::strain_step_at,
+))]
+pub fn solved(b: Bytes, vel: Holds) -> Solved<Impulses>
+    ensures { result ≡ c.solve (corotational_of b.entry.bytes.now) vel }
 {
-    let rot = mat3_at(b, layout::ELASTIC_ROT_MAT);
-    let coeffs = four_at(b, layout::ELASTIC_COEFFS);
-    let im = masses_at(b, layout::ROW_IM);
-    let l = impulses_of(b);
-    let impulse = l.strain;
-    let y = strain_step(b, rot, coeffs, &impulse, vel);
+    let rows = strain_rows(b.at_least(), b.get(layout::ELASTIC_ROT_MAT));
+    let l = impulses_of(b.at_least());
+    let y = strain_step(b, rows, &l.strain, vel);
     let u = volume_of(b);
-    corotational::block::solve_rows(rot, coeffs, im, l, u, vel, &y)
+    corotational::block::solve_rows(rows, l, u, vel, &y)
 }

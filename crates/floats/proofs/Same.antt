@@ -16,7 +16,8 @@ use borrow.Author.Tests.{ltb-true}
 use Rattle.little_endian.specs.Bytes.{le32, f32_at, bytes4, f32_bytes, is_finite, patch}
 use Rattle.little_endian.proofs.Parts.{Bytes, le32_small}
 use Rattle.little_endian.proofs.Patch.{Beside, le32_beside}
-use Rattle.little_endian.proofs.Floats.{not_above, finite_bits}
+use Rattle.std.proofs.lemmas.Float.{not_nan_f32_bits}
+use Rattle.little_endian.proofs.Floats.{finite_bits}
 use Rattle.vector.specs.declared.Vec3.{Vec3}
 use Rattle.floats.specs.Fields.{put_f32, put_vec3, vec3_at}
 
@@ -49,7 +50,7 @@ put_u32_same b k y =
 finite_no_nan : (n : ℕ) → is_finite (of_bits binary32 n) ≡ true → T (not (is_nan (of_bits binary32 n)))
 finite_no_nan n f =
     let h : n % 2147483648 < 2139095040 = ltb-true _ _ (sym (finite_bits n) ∙ f) in
-    subst (λ (t : Bool). T (not t)) (nan_bits_is binary32 n) (not_above n (omega arith))
+    subst (λ (t : Bool). T (not t)) (nan_bits_is binary32 n) (not_nan_f32_bits n (omega arith))
 
 pub put_f32_same : (b : List ℕ) (k : ℕ) → Bytes b → is_finite (f32_at b k) ≡ true → put_f32 b k (f32_at b k) ≡ b
 put_f32_same b k y f =

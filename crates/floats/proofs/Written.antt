@@ -7,21 +7,32 @@ use mathlib.Core.List.{List}
 use native.Mathlib.Omega.{arith}
 use lib.Dec.{T, eqb, ltb, lit≤}
 use lib.ListN.{length}
-use lib.Ieee.{Float, nan, binary32, of_bits, to_bits, fits, nan_bits}
+use lib.Ieee.{Float, nan, inf, fin, is_nan, binary32, of_bits, to_bits, fits, nan_bits}
 use lib.Ieee.Bits.{of_bits-to_bits, to_bits-lt}
-use borrow.Author.Tests.{eqb-true, eqb-false, ltb-true, ltb-false}
+use borrow.Author.Tests.{eqb-true, eqb-false, ltb-true, ltb-false, lt-ltb}
+use Rattle.std.proofs.lemmas.Float.{not_nan_f32_bits}
+use Rattle.std.proofs.lemmas.Bool.{false≢true}
 use Rattle.little_endian.specs.Bytes.{le32, bytes2, f32_bytes, patch}
 use Rattle.little_endian.proofs.Patch.{length-patch, le32_back, le32_beside}
-use Rattle.little_endian.proofs.Floats.{above_nan, not_above}
+use Rattle.little_endian.proofs.Floats.{nan_bits_lem}
 use Rattle.floats.specs.Fields.{put_f32}
 use Rattle.floats.specs.Written.{Written, AllWritten, Stays}
+
+is_nan_lem : (x : Float) → is_nan x ≡ true → x ≡ nan
+unfolding is_nan
+is_nan_lem nan e = refl
+is_nan_lem (inf s) e = absurd (false≢true e)
+is_nan_lem (fin s m k) e = absurd (false≢true e)
+
+above_nan : (n : ℕ) → 2139095040 < n % 2147483648 → of_bits binary32 n ≡ nan
+above_nan n h = is_nan_lem (of_bits binary32 n) (nan_bits_lem n ∙ lt-ltb _ _ h)
 
 -- the one pattern of a NaN, and all others that are written
 pub the_nan : (n : ℕ) → n ≡ 2143289344 → of_bits binary32 n ≡ nan
 the_nan n e = above_nan n (subst (λ (m : ℕ). 2139095040 < m % 2147483648) (sym e) (lit≤ tt))
 
 pub no_nan : (n : ℕ) → Written n → (n ≡ 2143289344 → ⊥) → T (not (nan_bits binary32 n))
-no_nan n w d = not_above n (go (ltb 2139095040 (n % 2147483648)) refl)
+no_nan n w d = not_nan_f32_bits n (go (ltb 2139095040 (n % 2147483648)) refl)
   where
     go : (t : Bool) → ltb 2139095040 (n % 2147483648) ≡ t → n % 2147483648 ≤ 2139095040
     go true e = absurd (d (w (ltb-true _ _ e)))

@@ -3,14 +3,15 @@ use Rattle.std.specs.Prelude.{ℕ, List, [], length, ltb}
 use Rattle.records.specs.declared.Answer.{Answer}
 use Rattle.records.specs.declared.Due.TheVariants.{Head, Point, Row}
 use Rattle.records.specs.Layout.{head_end}
-use Rattle.records.specs.Answers.{Test, ◌then◌, refuse, extraBytes, first_of}
+use Rattle.records.specs.declared.Refusal.TheVariants.{ExtraBytes}
+use Rattle.records.specs.Answers.{Test, ◌then◌, refuse, first_of}
 use Rattle.records.specs.Records.{record_tests, records_tests}
 use Rattle.clash.specs.Clash.{clash_tests}
 use Rattle.frame.specs.Frames.{count_n, count_r, rows_at, rows_end}
 
 -- 8: bytes after the last record
 unfoldable pub extra : List ℕ → List Test
-extra s = refuse extraBytes (rows_end s) (ltb (rows_end s) (length s))
+extra s = refuse ExtraBytes (rows_end s) (ltb (rows_end s) (length s))
 
 -- the head, the points and the rows, each record by itself and in turn; then 8; then 9
 unfoldable pub frame_tests : List ℕ → List Test

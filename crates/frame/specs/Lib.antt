@@ -1,4 +1,3 @@
 -- Whole frames: their parts, and what check answers. Assumes nothing.
 pub mod Frames
 pub mod Check
-pub mod Scanned

@@ -1,69 +1,41 @@
 // A whole frame: check, for every list of bytes of any length.
 #![tactic(auto)]
 
-ghost use Rattle.std.specs.Prelude.{◌≡◌, ℕ, ◌≤◌, length};
+ghost use Rattle.std.specs.Prelude.{◌≡◌, ℕ, ◌≤◌, length, IfOk};
+ghost use Rattle.records.specs.Answers.{outcome, answer_of};
+ghost use Rattle.records.specs.Outcomes.{refusal_of};
+ghost use Rattle.records.specs.Records.{records_tests, end_of};
 ghost use Rattle.frame.specs.Check.{check_of};
-ghost use Rattle.frame.specs.Scanned.{Scanned};
 
-use records::{Answer, Due, layout};
+use records::{Due, Refusal, Refused, layout};
 
-// The answer of some records one after another, and the place behind the last of them.
-#[derive(Clone, Copy)]
-pub struct Scan {
-    pub answer: Answer,
-    pub end: usize,
-}
-
-// The tests of k records, the first at `at`, each of what is due.
-fn records_test(due: Due, k: usize, s: &[u8], at: usize) -> Scan
+// The tests of k records, the first at `at`, each of what is due: the place behind the last of them.
+fn records_test(due: Due, k: usize, s: &[u8], at: usize) -> Result<usize, Refused>
     requires { at ≤ length s.now }
-    ensures { Scanned due k s.now at result }
+    ensures refusal { refusal_of result ≡ outcome (records_tests due k s.now at 0) }
+    ensures end { IfOk result (λ end. (end ≡ end_of k s.now at) × (end ≤ length s.now)) }
 {
     let mut off = at;
-    let mut colour: u16 = 0;
-    let mut i: usize = 0;
-    while i < k {
-        let a = records::record_test(due, s, off, colour);
-        if a.number != 0 {
-            return Scan {
-                answer: a,
-                end: off,
-            };
-        }
+    let mut colour = 0;
+    for _ in 0..k {
+        records::record_test(due, s, off, colour)?;
         let b = records::record_at(s, off);
         colour = little_endian::get_u16(b, layout::ROW_COLOUR);
-        off = off + b.len();
-        i = i + 1;
+        off += b.len();
     }
-    Scan {
-        answer: records::refuse_if(false, 0, 0),
-        end: off,
-    }
+    Ok(off)
 }
 
-// Document 01's number and place: 0 at 0 for a frame that is accepted, else the first refusal.
-pub fn check(frame: &[u8]) -> Answer
-    ensures { result ≡ check_of frame.now }
+// Ok for a frame that is accepted, else the first refusal, with document 01's number and place.
+#[tactic(auto, using(crate::proofs::Answered::check_is, crate::proofs::Answered::frame_outcome), unfolding(crate::specs::Check::extra))]
+pub fn check(frame: &[u8]) -> Result<(), Refused>
+    ensures { answer_of result ≡ check_of frame.now }
 {
-    let h = records::record_test(Due::Head, frame, 0, 0);
-    if h.number != 0 {
-        return h;
-    }
+    records::record_test(Due::Head, frame, 0, 0)?;
     let n = little_endian::get_u32(frame, layout::HEAD_POINTS) as usize;
     let r = little_endian::get_u32(frame, layout::HEAD_ROWS) as usize;
-    let points = records_test(Due::Point, n, frame, layout::HEAD_END);
-    let p = points.answer;
-    if p.number != 0 {
-        return p;
-    }
-    let at = points.end;
-    let rows = records_test(Due::Row, r, frame, at);
-    let q = rows.answer;
-    if q.number != 0 {
-        return q;
-    }
-    let end = rows.end;
-    let more = records::refuse_if(end < frame.len(), 8, end);
-    let shared = clash::clash_test(n, r, frame, at);
-    records::first(more, shared)
+    let at = records_test(Due::Point, n, frame, layout::HEAD_END)?;
+    let end = records_test(Due::Row, r, frame, at)?;
+    records::refuse(end < frame.len(), Refusal::ExtraBytes, end)?;
+    clash::clash_test(n, r, frame, at)
 }

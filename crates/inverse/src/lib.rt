@@ -2,7 +2,7 @@
 // entries that change.
 #![tactic(auto)]
 
-ghost use Rattle.std.specs.Prelude.{cond, ◌≡◌, ◌<◌, length};
+ghost use Rattle.std.specs.Prelude.{◌≡◌, ◌<◌, length, is_ok};
 ghost use Rattle.loops.specs.Loops.{up_to};
 ghost use Rattle.strain.specs.Matrix as matrix;
 ghost use Rattle.inverse.specs.Elimination as elimination;
@@ -10,12 +10,19 @@ ghost use Rattle.inverse.specs.Factors.{state, going};
 ghost use Rattle.inverse.specs.Inverse as spec;
 
 use real::{abs, pick};
+use std::array::from_fn;
 
-fn pick_row(b: bool, x: usize, y: usize) -> usize
-    ensures { result ≡ cond b x y }
-{
-    if b { x } else { y }
+// A matrix under elimination, and the number that each of its rows had at first.
+#[derive(Drop)]
+struct Elimination {
+    m: [f32; 36],
+    rows: [usize; 6],
+    ghost sizes: { (length m ≡ 36) × (length rows ≡ 6) },
 }
+
+// A pivot is zero.
+#[derive(Clone, Copy)]
+struct Singular;
 
 // The row of the pivot of column j; `most` is its magnitude.
 fn pivot_row(m: &[f32; 36], j: usize) -> usize
@@ -27,7 +34,7 @@ fn pivot_row(m: &[f32; 36], j: usize) -> usize
     for i in j + 1..6 {
         let x = abs(m[j * 6 + i]);
         let more = most < x;
-        best = pick_row(more, i, best);
+        best = pick(more, i, best);
         most = pick(more, x, most);
     }
     best
@@ -38,9 +45,7 @@ fn swap_rows(m: &mut [f32; 36], p: usize, j: usize)
     ensures { m.new ≡ spec.swap_rows m.old p j }
 {
     for k in 0usize..6 {
-        let x = m[k * 6 + p];
-        m[k * 6 + p] = m[k * 6 + j];
-        m[k * 6 + j] = x;
+        m.swap(k * 6 + p, k * 6 + j);
     }
 }
 
@@ -50,7 +55,7 @@ fn scale(m: &mut [f32; 36], j: usize, inv: f32)
     ensures { m.new ≡ elimination.scaled j inv m.old }
 {
     for i in j + 1..6 {
-        m[j * 6 + i] = m[j * 6 + i] * inv;
+        m[j * 6 + i] *= inv;
     }
 }
 
@@ -61,7 +66,7 @@ fn reduce(m: &mut [f32; 36], j: usize, k: usize)
 {
     let x = m[k * 6 + j];
     for i in j + 1..6 {
-        m[k * 6 + i] = m[k * 6 + i] - m[j * 6 + i] * x;
+        m[k * 6 + i] -= m[j * 6 + i] * x;
     }
 }
 
@@ -75,56 +80,59 @@ fn eliminate(m: &mut [f32; 36], j: usize, inv: f32)
     }
 }
 
-fn swap_places(rows: &mut [usize; 6], p: usize, j: usize)
-    requires { (p < 6) × (j < 6) }
-    ensures { rows.new ≡ spec.swap_places rows.old p j }
-{
-    let x = rows[j];
-    rows[j] = rows[p];
-    rows[p] = x;
-}
-
-// False where the pivot of column j is zero.
-fn factor_column(m: &mut [f32; 36], rows: &mut [usize; 6], j: usize) -> bool
-    requires { (length m.old ≡ 36) × (j < 6) }
-    ensures result_after { state m.new rows.new result ≡ spec.factor_column j (going m.old rows.old) }
-    ensures m_len { length m.new ≡ 36 }
-{
-    let p = pivot_row(m, j);
-    swap_rows(m, p, j);
-    let d = m[j * 6 + j];
-    if d == 0.0 {
-        return false;
-    }
-    eliminate(m, j, 1.0 / d);
-    swap_places(rows, p, j);
-    true
-}
-
-// False where a pivot is zero.
-fn factor(m: &mut [f32; 36], rows: &mut [usize; 6]) -> bool
-    requires { length m.old ≡ 36 }
-    ensures { state m.new rows.new result ≡ up_to 6 spec.factor_column (going m.old rows.old) }
-{
-    for j in 0usize..6 {
-        if !factor_column(m, rows, j) {
-            return false;
+impl Elimination {
+    fn eliminate_column(&mut self, j: usize) -> Result<(), Singular>
+        requires { j < 6 }
+        ensures { state self.new.m self.new.rows (is_ok result) ≡ spec.factor_column j (going self.old.m self.old.rows) }
+    {
+        let p = pivot_row(&self.m, j);
+        swap_rows(&mut self.m, p, j);
+        let d = self.m[j * 6 + j];
+        if d == 0.0 {
+            return Err(Singular);
         }
+        eliminate(&mut self.m, j, 1.0 / d);
+        self.rows.swap(j, p);
+        Ok(())
     }
-    true
+
+    fn factor(&mut self) -> Result<(), Singular>
+        ensures { state self.new.m self.new.rows (is_ok result) ≡ up_to 6 spec.factor_column (going self.old.m self.old.rows) }
+    {
+        for j in 0usize..6 {
+            self.eliminate_column(j)?;
+        }
+        Ok(())
+    }
+
+    // Column c of the inverse, once the matrix is factored.
+    #[tactic(auto, unfolding(crate::specs::Inverse::solve_column))]
+    fn solve_column(&self, c: usize) -> [f32; 6]
+        ensures { result ≡ spec.solve_column (going self.now.m self.now.rows) c }
+    {
+        let mut x = unit(&self.rows, c);
+        forward(&self.m, &mut x);
+        backward(&self.m, &mut x);
+        x
+    }
+
+    // The inverse of the matrix that has these factors.
+    fn solve(&self) -> [f32; 36]
+        ensures { result ≡ matrix.from_fn (spec.solved_at (going self.now.m self.now.rows)) }
+    {
+        let mut r = [0.0f32; 36];
+        for c in 0usize..6 {
+            strain::set_column(&mut r, c, &self.solve_column(c));
+        }
+        r
+    }
 }
 
+#[tactic(auto, unfolding(crate::specs::Inverse::unit))]
 fn unit(rows: &[usize; 6], c: usize) -> [f32; 6]
     ensures { result ≡ spec.unit rows.now c }
 {
-    [
-        pick(rows[0] == c, 1.0, 0.0),
-        pick(rows[1] == c, 1.0, 0.0),
-        pick(rows[2] == c, 1.0, 0.0),
-        pick(rows[3] == c, 1.0, 0.0),
-        pick(rows[4] == c, 1.0, 0.0),
-        pick(rows[5] == c, 1.0, 0.0),
-    ]
+    from_fn(|i| pick(rows[i] == c, 1.0, 0.0))
 }
 
 fn forward_at(m: &[f32; 36], x: &[f32; 6], i: usize) -> f32
@@ -133,7 +141,7 @@ fn forward_at(m: &[f32; 36], x: &[f32; 6], i: usize) -> f32
 {
     let mut acc = x[i];
     for k in 0..i {
-        acc = acc - m[k * 6 + i] * x[k];
+        acc -= m[k * 6 + i] * x[k];
     }
     acc
 }
@@ -153,7 +161,7 @@ fn backward_at(m: &[f32; 36], x: &[f32; 6], i: usize) -> f32
 {
     let mut acc = x[i];
     for u in 0..5 - i {
-        acc = acc - m[(5 - u) * 6 + i] * x[5 - u];
+        acc -= m[(5 - u) * 6 + i] * x[5 - u];
     }
     acc / m[i * 6 + i]
 }
@@ -167,42 +175,16 @@ fn backward(m: &[f32; 36], x: &mut [f32; 6])
     }
 }
 
-fn solve_column(m: &[f32; 36], rows: &[usize; 6], c: usize) -> [f32; 6]
-    ensures { result ≡ spec.solve_column (going m.now rows.now) c }
-{
-    let mut x = unit(rows, c);
-    forward(m, &mut x);
-    backward(m, &mut x);
-    x
-}
-
-// The inverse of the matrix that has these factors.
-fn solve(m: &[f32; 36], rows: &[usize; 6]) -> [f32; 36]
-    ensures { result ≡ matrix.from_fn (spec.solved_at (going m.now rows.now)) }
-{
-    let mut r = [0.0f32; 36];
-    for c in 0usize..6 {
-        let x = solve_column(m, rows, c);
-        strain::set_column(&mut r, c, &x);
-    }
-    r
-}
-
-// `try_inverse` on an array of its own: only of an array by value is the length known to the proof.
-fn inverse_of(m: [f32; 36]) -> [f32; 36]
-    ensures { result ≡ spec.try_inverse m }
-{
-    let mut a = m;
-    let mut rows = [0usize, 1, 2, 3, 4, 5];
-    if !factor(&mut a, &mut rows) {
-        return [0.0f32; 36];
-    }
-    solve(&a, &rows)
-}
-
 // The inverse, or zeros where a pivot is zero.
 pub fn try_inverse(m: &[f32; 36]) -> [f32; 36]
     ensures { result ≡ spec.try_inverse m.now }
 {
-    inverse_of(*m)
+    let mut e = Elimination {
+        m: *m,
+        rows: [0, 1, 2, 3, 4, 5],
+    };
+    match e.factor() {
+        Ok(()) => e.solve(),
+        Err(Singular) => [0.0; 36],
+    }
 }

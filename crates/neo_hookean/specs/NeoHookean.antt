@@ -13,7 +13,7 @@ use Rattle.inverse.specs.Inverse.{try_inverse}
 use Rattle.cell.specs.Strain.{outer_sum, weighted, strain_block_from_g}
 use Rattle.cell.specs.Cell.{strain_rates, strain_losses}
 use Rattle.cell.specs.declared.Impulses.{Impulses}
-use Rattle.cell.specs.declared.Solved.{Solved}
+use Rattle.places.specs.declared.Solved.{Solved}
 use Rattle.energy.specs.Hessian.{gradient, hessian}
 use Rattle.energy.specs.declared.Energy.{Energy}
 use Rattle.neo_hookean.specs.declared.Material.{Material}
@@ -32,7 +32,7 @@ is_fresh strain last = all_within6 (sub6 strain last) nearby
 
 -- M = dt (dt K + D)
 unfoldable pub stiffness_matrix : Material → Energy → List Float
-stiffness_matrix p e = scale36 (add36 (scale36 (hessian p.mu p.lambda e.s e.kappa) p.dt) (from_diagonal p.damping)) p.dt
+stiffness_matrix p e = scale36 (add36 (scale36 (hessian p.lame.mu p.lame.lambda e.s e.kappa) p.dt) (from_diagonal p.damping)) p.dt
 
 -- the effective-mass block A, from G = Σ w_p c_p c_pᵀ
 unfoldable pub strain_block : Four Vec3 → Masses → List Float
@@ -54,7 +54,7 @@ kept k invA dtGrad = record { stiffness = record { stiffness_strain = k.stiffnes
 
 unfoldable pub update_block : Four Vec3 → Masses → Material → Stiffness → List Float → List Float → Block
 update_block coeffs im p k invA strain =
-    let e = gradient p.mu p.lambda strain in
+    let e = gradient p.lame.mu p.lame.lambda strain in
     let dtGrad = scale6 e.grad p.dt in
     cond (is_fresh strain k.stiffness_strain) (kept k invA dtGrad) (renewed coeffs im p e strain dtGrad)
 
@@ -69,14 +69,14 @@ unfoldable pub strain_step : Mat3 → Four Vec3 → List Float → List Float �
 strain_step rot coeffs invA m dtGrad impulse vel = mat_vec invA (residual (mat_vec m (strain_rates rot coeffs vel)) dtGrad impulse)
 
 -- impulses d more, and what each place is to lose for them; the volumetric impulse stays: this model never uses it
-unfoldable pub applied : Mat3 → Four Vec3 → Masses → Impulses → List Float → Solved
-applied rot coeffs im l d = record { impulses = record { strain = add6 l.strain d; vol = l.vol }; loss = strain_losses rot coeffs im d }
+unfoldable pub applied : Mat3 → Four Vec3 → Masses → Impulses → List Float → Solved Impulses
+applied rot coeffs im l d = record { state = record { strain = add6 l.strain d; vol = l.vol }; loss = strain_losses rot coeffs im d }
 
-unfoldable pub solve_neo_hookean : Mat3 → Four Vec3 → Masses → List Float → List Float → List Float → Impulses → Holds → Solved
+unfoldable pub solve_neo_hookean : Mat3 → Four Vec3 → Masses → List Float → List Float → List Float → Impulses → Holds → Solved Impulses
 solve_neo_hookean rot coeffs im invA m dtGrad l vel = applied rot coeffs im l (strain_step rot coeffs invA m dtGrad l.strain vel)
 
 -- the warm start scales the volumetric impulse all the same
-unfoldable pub warmstart_neo_hookean : Mat3 → Four Vec3 → Masses → Impulses → Float → Solved
+unfoldable pub warmstart_neo_hookean : Mat3 → Four Vec3 → Masses → Impulses → Float → Solved Impulses
 warmstart_neo_hookean rot coeffs im l coeff =
     let strain = scale6 l.strain coeff in
-    record { impulses = record { strain = strain; vol = l.vol ⊗ coeff }; loss = strain_losses rot coeffs im strain }
+    record { state = record { strain = strain; vol = l.vol ⊗ coeff }; loss = strain_losses rot coeffs im strain }

@@ -4,55 +4,50 @@ ghost use Rattle.strain.specs.Matrix.{mat_vec};
 ghost use Rattle.neo_hookean.specs.NeoHookean as spec;
 
 use crate::Stiffness;
-use cell::solve::strain_losses;
-use cell::{Impulses, Solved};
-use places::Masses;
-use strain::{add6, mat_vec, scale6, sub6};
-use vector::{Four, Mat3};
+use cell::{Impulses, StrainRows};
+use places::Solved;
+use strain::{add, mat_vec, sub};
 
 // M rate + dt g - λ, where pull is M rate.
+#[tactic(auto, unfolding(crate::specs::NeoHookean::residual))]
 fn residual(pull: &[f32; 6], dt_grad: &[f32; 6], impulse: &[f32; 6]) -> [f32; 6]
     ensures { result ≡ spec.residual pull.now dt_grad.now impulse.now }
 {
-    let sum = add6(pull, dt_grad);
-    sub6(&sum, impulse)
+    sub(&add(pull, dt_grad), impulse)
 }
 
-// The residual at these rates.
-pub fn pulled(k: Stiffness, rate: &[f32; 6], impulse: &[f32; 6]) -> [f32; 6]
-    ensures { result ≡ spec.residual (mat_vec k.m rate.now) k.dt_grad impulse.now }
-{
-    let m = k.m;
-    let dt_grad = k.dt_grad;
-    let pull = mat_vec(&m, rate);
-    residual(&pull, &dt_grad, impulse)
+impl Stiffness {
+    // The residual at these rates.
+    pub fn pulled(self, rate: &[f32; 6], impulse: &[f32; 6]) -> [f32; 6]
+        ensures { result ≡ spec.residual (mat_vec self.m rate.now) self.dt_grad impulse.now }
+    {
+        let pull = mat_vec(&self.m, rate);
+        residual(&pull, &self.dt_grad, impulse)
+    }
 }
 
 // Impulses d more.
-pub fn applied(rot: Mat3, coeffs: Four, im: Masses, l: Impulses, d: &[f32; 6]) -> Solved
-    ensures { result ≡ spec.applied rot coeffs im l d.now }
+#[tactic(auto, unfolding(crate::specs::NeoHookean::applied))]
+pub fn applied(rows: StrainRows, l: Impulses, d: &[f32; 6]) -> Solved<Impulses>
+    ensures { result ≡ spec.applied rows.rot rows.coeffs rows.im l d.now }
 {
-    let old = l.strain;
-    let strain = add6(&old, d);
-    let loss = strain_losses(rot, coeffs, im, d);
     Solved {
-        impulses: Impulses { strain, vol: l.vol },
-        loss,
+        state: Impulses {
+            strain: add(&l.strain, d),
+            ..l
+        },
+        loss: rows.losses(d),
     }
 }
 
 // The volumetric impulse is scaled too, though this model never uses it.
-pub fn warmstart_neo_hookean(rot: Mat3, coeffs: Four, im: Masses, l: Impulses, coeff: f32) -> Solved
-    ensures { result ≡ spec.warmstart_neo_hookean rot coeffs im l coeff }
+#[tactic(auto, unfolding(crate::specs::NeoHookean::warmstart_neo_hookean))]
+pub fn warmstart_neo_hookean(rows: StrainRows, l: Impulses, coeff: f32) -> Solved<Impulses>
+    ensures { result ≡ spec.warmstart_neo_hookean rows.rot rows.coeffs rows.im l coeff }
 {
-    let old = l.strain;
-    let strain = scale6(&old, coeff);
-    let loss = strain_losses(rot, coeffs, im, &strain);
+    let warm = l.scaled(coeff);
     Solved {
-        impulses: Impulses {
-            strain,
-            vol: l.vol * coeff,
-        },
-        loss,
+        state: warm,
+        loss: rows.losses(&warm.strain),
     }
 }

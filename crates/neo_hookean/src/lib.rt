@@ -5,14 +5,14 @@ pub mod iteration; // the warm start and the solve
 pub mod renewal; // the stiffness and the block, kept or renewed
 
 use cell::{Cell, Compliance, Impulses, Pose};
+use energy::Lame;
 
 // Neo-Hookean: what no step alters.
 #[repr(C)]
 #[derive(Clone, Copy)]
 pub struct Material {
     pub dt: f32,
-    pub mu: f32,
-    pub lambda: f32,
+    pub lame: Lame,
     pub damping: [f32; 6],
 }
 

@@ -6,53 +6,49 @@ use crate::{Block, Material, Stiffness};
 use cell::Compliance;
 use cell::tensor::{outer_sum, strain_block_from_g, weighted};
 use energy::Energy;
-use energy::hessian::hessian;
 use inverse::try_inverse;
 use places::Masses;
-use strain::{add36, scale36};
-use vector::Four;
+use strain::{add, all_within6, from_diagonal, identity6, mat_mul, scale, sub};
+use vector::{Four, Vec3};
 
 // STIFFNESS_UPDATE_STRAIN of the Rust.
 const NEARBY: f32 = 0.02;
 
+#[tactic(auto, unfolding(crate::specs::NeoHookean::is_fresh))]
 pub fn is_fresh(strain: &[f32; 6], last: &[f32; 6]) -> bool
     ensures { result ≡ spec.is_fresh strain.now last.now }
 {
-    let d = strain::sub6(strain, last);
-    strain::all_within6(&d, NEARBY)
+    all_within6(&sub(strain, last), NEARBY)
 }
 
 // M = dt (dt K + D).
+#[tactic(auto, unfolding(crate::specs::NeoHookean::stiffness_matrix))]
 pub fn stiffness_matrix(p: Material, e: Energy) -> [f32; 36]
     ensures { result ≡ spec.stiffness_matrix p e }
 {
-    let damping = p.damping;
-    let hess = hessian(p.mu, p.lambda, e.s, e.kappa);
-    let k = scale36(&hess, p.dt);
-    let d = strain::from_diagonal(&damping);
-    let sum = add36(&k, &d);
-    scale36(&sum, p.dt)
+    let k = scale(&p.lame.hessian(e.s, e.kappa), p.dt);
+    scale(&add(&k, &from_diagonal(&p.damping)), p.dt)
 }
 
 // The effective-mass block A.
-pub fn strain_block(coeffs: Four, im: Masses) -> [f32; 36]
+#[tactic(auto, unfolding(crate::specs::NeoHookean::strain_block))]
+pub fn strain_block(coeffs: Four<Vec3>, im: Masses) -> [f32; 36]
     ensures { result ≡ spec.strain_block coeffs im }
 {
     strain_block_from_g(outer_sum(weighted(coeffs, im), coeffs))
 }
 
 // M A + I.
-pub fn block(coeffs: Four, im: Masses, m: &[f32; 36]) -> [f32; 36]
+#[tactic(auto, unfolding(crate::specs::NeoHookean::block))]
+pub fn block(coeffs: Four<Vec3>, im: Masses, m: &[f32; 36]) -> [f32; 36]
     ensures { result ≡ spec.block coeffs im m.now }
 {
-    let a = strain_block(coeffs, im);
-    let product = strain::mat_mul(m, &a);
-    let one = strain::identity6();
-    add36(&product, &one)
+    add(&mat_mul(m, &strain_block(coeffs, im)), &identity6())
 }
 
+#[tactic(auto, unfolding(crate::specs::NeoHookean::renewed))]
 pub fn renewed(
-    coeffs: Four,
+    coeffs: Four<Vec3>,
     im: Masses,
     p: Material,
     e: Energy,
@@ -62,8 +58,7 @@ pub fn renewed(
     ensures { result ≡ spec.renewed coeffs im p e strain.now dt_grad.now }
 {
     let m = stiffness_matrix(p, e);
-    let b = block(coeffs, im, &m);
-    let inv_a = try_inverse(&b);
+    let inv_a = try_inverse(&block(coeffs, im, &m));
     Block {
         stiffness: Stiffness {
             stiffness_strain: *strain,

@@ -4,7 +4,7 @@ use mathlib.Core.Path.{◌≡◌, refl, sym, ◌∙◌}
 use mathlib.Core.Bool.{Bool, true, false}
 use mathlib.Core.List.{List}
 use lib.Ieee.{Float}
-use Rattle.places.specs.declared.Holds.{Holds}
+use Rattle.places.specs.Places.{Holds}
 use Rattle.records.specs.Layout as at
 use Rattle.cell.specs.Cell.{is_strained}
 use Rattle.neo_hookean.specs.NeoHookean.{is_fresh, renewed, update_block}

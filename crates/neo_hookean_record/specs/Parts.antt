@@ -1,10 +1,11 @@
 -- The parts of a neo-Hookean row's update and of its solve, with what each reads of the record. Definitions only. Assumes nothing.
 use Rattle.std.specs.Prelude.{ℕ, List, Float}
 use Rattle.little_endian.specs.Bytes.{f32_at}
+use Rattle.vector.specs.declared.Vec3.{Vec3}
 use Rattle.vector.specs.declared.Mat3.{Mat3}
 use Rattle.vector.specs.declared.Four.{Four}
 use Rattle.strain.specs.Six.{scale6}
-use Rattle.places.specs.declared.Holds.{Holds}
+use Rattle.places.specs.Places.{Holds}
 use Rattle.records.specs.Layout as at
 use Rattle.cell.specs.Cell.{update_pose, is_strained}
 use Rattle.energy.specs.Hessian.{gradient}
@@ -42,5 +43,5 @@ unfoldable pub put_strains : Update → Float → List ℕ → List ℕ
 put_strains u least b = put_flag (put_floats 6 b at.neo_dt_grad u.dt_grad) at.row_strained (is_strained u.pose.strain least)
 
 -- what the strain rows take
-unfoldable pub strain_step_at : Mat3 → Four → List Float → Holds → List ℕ → List Float
+unfoldable pub strain_step_at : Mat3 → Four Vec3 → List Float → Holds → List ℕ → List Float
 strain_step_at rot coeffs impulse vel b = strain_step rot coeffs (compliance_of b).inv_a (stiffness_of b).m (stiffness_of b).dt_grad impulse vel

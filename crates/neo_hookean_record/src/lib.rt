@@ -7,50 +7,43 @@ ghost use Rattle.records.specs.Layout as at;
 ghost use Rattle.neo_hookean.specs.NeoHookean.{is_fresh};
 ghost use Rattle.neo_hookean.specs.Row as n;
 ghost use Rattle.floats.specs.Fields.{floats_at, put_floats};
-ghost use Rattle.floats.specs.Written.{AllWritten, Kept};
+ghost use Rattle.floats.specs.Written.{Kept};
 ghost use Rattle.stored.specs.Read.{material_of, stiffness_of, neo_hookean_of};
 ghost use Rattle.stored.specs.Put.{put_pose};
 ghost use Rattle.neo_hookean_record.specs.Parts as spec;
 
-use cell::tensor::from_columns;
-use cell::{Impulses, Pose, Solved};
-use cell_record::{impulses_of, put_pose};
-use energy::Energy;
-use floats::{f32_at, floats6_at, four_at, masses_at, mat3_at, put_floats6, put_floats36};
+use cell::{Impulses, Pose, StrainRows};
+use cell_record::{impulses_of, matrix_at, put_pose, strain_rows};
+use energy::{Energy, Lame};
+use floats::Field;
+use floats::row_bytes::RowBytes;
 use neo_hookean::{Block, Material, Stiffness};
-use places::Holds;
+use places::{Holds, Solved};
 use records::layout;
-use vector::{Four, Mat3};
+
+// The bytes of a neo-Hookean row.
+pub type Bytes<'a> = RowBytes<'a, { layout::NEO_END }>;
 
 // ---- update
 
-fn energy_anew(b: &[u8], strain: &[f32; 6]) -> Energy
-    requires { (678 ≤ length b.now) × AllWritten b.now }
-    ensures { result ≡ spec.energy_anew strain.now b.now }
+#[tactic(auto, unfolding(stored::specs::Read::material_of))]
+fn lame_of(b: Bytes) -> Lame
+    ensures { result ≡ (material_of b.entry.bytes.now).lame }
 {
-    let mu = f32_at(b, layout::NEO_MU);
-    let lambda = f32_at(b, layout::NEO_LAMBDA);
-    energy::hessian::gradient(mu, lambda, strain)
+    Lame {
+        mu: b.get(layout::NEO_MU),
+        lambda: b.get(layout::NEO_LAMBDA),
+    }
 }
 
-fn dt_grad_anew(b: &[u8], e: Energy) -> [f32; 6]
-    requires { (678 ≤ length b.now) × AllWritten b.now }
-    ensures { result ≡ spec.dt_grad_anew e b.now }
+#[tactic(auto, unfolding(stored::specs::Read::material_of))]
+fn material_of(b: Bytes) -> Material
+    ensures { result ≡ material_of b.entry.bytes.now }
 {
-    let grad = e.grad;
-    strain::scale6(&grad, f32_at(b, layout::NEO_DT))
-}
-
-fn material_of(b: &[u8]) -> Material
-    requires { (678 ≤ length b.now) × AllWritten b.now }
-    ensures { result ≡ material_of b.now }
-{
-    let damping = floats6_at(b, layout::NEO_DAMPING);
     Material {
-        dt: f32_at(b, layout::NEO_DT),
-        mu: f32_at(b, layout::NEO_MU),
-        lambda: f32_at(b, layout::NEO_LAMBDA),
-        damping,
+        dt: b.get(layout::NEO_DT),
+        lame: lame_of(b),
+        damping: b.get(layout::NEO_DAMPING),
     }
 }
 
@@ -62,14 +55,18 @@ pub struct Update {
     pub dt_grad: [f32; 6],
 }
 
-pub fn updated(b: &[u8], held: Holds) -> Update
-    requires { (678 ≤ length b.now) × AllWritten b.now }
-    ensures { result ≡ spec.update_anew held b.now }
+#[tactic(auto, unfolding(
+    crate::specs::Parts::update_anew,
+    crate::specs::Parts::energy_anew,
+    crate::specs::Parts::dt_grad_anew,
+    stored::specs::Read::material_of,
+))]
+pub fn updated(b: Bytes, held: Holds) -> Update
+    ensures { result ≡ spec.update_anew held b.entry.bytes.now }
 {
-    let pose = cell_record::pose_anew(b, held);
-    let strain = pose.strain;
-    let energy = energy_anew(b, &strain);
-    let dt_grad = dt_grad_anew(b, energy);
+    let pose = cell_record::pose_anew(b.at_least(), held);
+    let energy = lame_of(b).gradient(&pose.strain);
+    let dt_grad = strain::scale(&energy.grad, b.get(layout::NEO_DT));
     Update {
         pose,
         energy,
@@ -77,61 +74,48 @@ pub fn updated(b: &[u8], held: Holds) -> Update
     }
 }
 
-pub fn is_kept(b: &[u8], u: Update) -> bool
-    requires { (678 ≤ length b.now) × AllWritten b.now }
-    ensures { result ≡ is_fresh u.pose.strain (floats_at 6 b.now at.neo_stiffness_strain) }
+pub fn is_kept(b: Bytes, u: Update) -> bool
+    ensures { result ≡ is_fresh u.pose.strain (floats_at 6 b.entry.bytes.now at.neo_stiffness_strain) }
 {
-    let pose = u.pose;
-    let strain = pose.strain;
-    let last = floats6_at(b, layout::NEO_STIFFNESS_STRAIN);
-    neo_hookean::renewal::is_fresh(&strain, &last)
+    let last = b.get(layout::NEO_STIFFNESS_STRAIN);
+    neo_hookean::renewal::is_fresh(&u.pose.strain, &last)
 }
 
-pub fn renewed(b: &[u8], u: Update) -> Block
-    requires { (678 ≤ length b.now) × AllWritten b.now }
-    ensures { result ≡ spec.block_anew u.energy u.pose.strain u.dt_grad b.now }
+#[tactic(auto, unfolding(crate::specs::Parts::block_anew, floats::specs::Fields::four_at, floats::specs::Fields::masses_at))]
+pub fn renewed(b: Bytes, u: Update) -> Block
+    ensures { result ≡ spec.block_anew u.energy u.pose.strain u.dt_grad b.entry.bytes.now }
 {
-    let pose = u.pose;
-    let strain = pose.strain;
-    let dt_grad = u.dt_grad;
-    let coeffs = four_at(b, layout::ELASTIC_COEFFS);
-    let im = masses_at(b, layout::ROW_IM);
+    let coeffs = b.get(layout::ELASTIC_COEFFS);
+    let im = b.get(layout::ROW_IM);
     let p = material_of(b);
-    neo_hookean::renewal::renewed(coeffs, im, p, u.energy, &strain, &dt_grad)
+    neo_hookean::renewal::renewed(coeffs, im, p, u.energy, &u.pose.strain, &u.dt_grad)
 }
 
+#[tactic(auto, unfolding(stored::specs::Put::put_renewed))]
 fn put_block(b: &mut [u8], k: Block)
     requires { 678 ≤ length b.old }
     ensures { (b.new ≡ spec.put_anew k b.old) × Kept b.old b.new }
 {
-    let s = k.stiffness;
-    let strain = s.stiffness_strain;
-    let m = s.m;
-    let c = k.compliance;
-    let inv_a = c.inv_a;
-    put_floats6(b, layout::NEO_STIFFNESS_STRAIN, &strain);
-    put_floats36(b, layout::NEO_M, &m);
-    put_floats36(b, layout::ELASTIC_INV_A, &inv_a);
+    k.stiffness.stiffness_strain.put(b, layout::NEO_STIFFNESS_STRAIN);
+    k.stiffness.m.put(b, layout::NEO_M);
+    k.compliance.inv_a.put(b, layout::ELASTIC_INV_A);
 }
 
 // What is put last, whether the block is kept or renewed.
+#[tactic(auto, unfolding(crate::specs::Parts::put_strains))]
 fn put_strains(b: &mut [u8], u: Update, least: f32)
     requires { 678 ≤ length b.old }
     ensures { (b.new ≡ spec.put_strains u least b.old) × Kept b.old b.new }
 {
-    let pose = u.pose;
-    let strain = pose.strain;
-    let dt_grad = u.dt_grad;
-    put_floats6(b, layout::NEO_DT_GRAD, &dt_grad);
-    cell_record::put_strained(b, &strain, least);
+    u.dt_grad.put(b, layout::NEO_DT_GRAD);
+    cell_record::put_strained(b, &u.pose.strain, least);
 }
 
 pub fn put_kept(b: &mut [u8], u: Update, least: f32)
     requires { 678 ≤ length b.old }
     ensures { (b.new ≡ spec.put_strains u least (put_pose u.pose b.old)) × Kept b.old b.new }
 {
-    let pose = u.pose;
-    put_pose(b, pose);
+    put_pose(b, u.pose);
     put_strains(b, u, least);
 }
 
@@ -139,68 +123,68 @@ pub fn put_renewed(b: &mut [u8], u: Update, k: Block, least: f32)
     requires { 678 ≤ length b.old }
     ensures { (b.new ≡ spec.put_strains u least (spec.put_anew k (put_pose u.pose b.old))) × Kept b.old b.new }
 {
-    let pose = u.pose;
-    put_pose(b, pose);
+    put_pose(b, u.pose);
     put_block(b, k);
     put_strains(b, u, least);
 }
 
 // ---- warm start
 
-pub fn warmed(b: &[u8], coeff: f32) -> Solved
-    requires { (678 ≤ length b.now) × AllWritten b.now }
-    ensures { result ≡ n.warmstart (neo_hookean_of b.now) coeff }
+#[tactic(auto, unfolding(
+    neo_hookean::specs::Row::warmstart,
+    stored::specs::Read::cell_of,
+    stored::specs::Read::pose_of,
+    stored::specs::Read::neo_hookean_of,
+    cell_record::specs::Rows::strain_rows,
+))]
+pub fn warmed(b: Bytes, coeff: f32) -> Solved<Impulses>
+    ensures { result ≡ n.warmstart (neo_hookean_of b.entry.bytes.now) coeff }
 {
-    let rot = mat3_at(b, layout::ELASTIC_ROT_MAT);
-    let coeffs = four_at(b, layout::ELASTIC_COEFFS);
-    let im = masses_at(b, layout::ROW_IM);
-    let l = impulses_of(b);
-    neo_hookean::iteration::warmstart_neo_hookean(rot, coeffs, im, l, coeff)
+    let rows = strain_rows(b.at_least(), b.get(layout::ELASTIC_ROT_MAT));
+    let l = impulses_of(b.at_least());
+    neo_hookean::iteration::warmstart_neo_hookean(rows, l, coeff)
 }
 
 // ---- solve
 
-fn stiffness_of(b: &[u8]) -> Stiffness
-    requires { (678 ≤ length b.now) × AllWritten b.now }
-    ensures { result ≡ stiffness_of b.now }
+#[tactic(auto, unfolding(stored::specs::Read::stiffness_of))]
+fn stiffness_of(b: Bytes) -> Stiffness
+    ensures { result ≡ stiffness_of b.entry.bytes.now }
 {
-    let stiffness_strain = floats6_at(b, layout::NEO_STIFFNESS_STRAIN);
-    let c0 = floats6_at(b, layout::NEO_M);
-    let c1 = floats6_at(b, layout::NEO_M + 24);
-    let c2 = floats6_at(b, layout::NEO_M + 48);
-    let c3 = floats6_at(b, layout::NEO_M + 72);
-    let c4 = floats6_at(b, layout::NEO_M + 96);
-    let c5 = floats6_at(b, layout::NEO_M + 120);
-    let m = from_columns(&c0, &c1, &c2, &c3, &c4, &c5);
-    let dt_grad = floats6_at(b, layout::NEO_DT_GRAD);
     Stiffness {
-        stiffness_strain,
-        m,
-        dt_grad,
+        stiffness_strain: b.get(layout::NEO_STIFFNESS_STRAIN),
+        m: matrix_at(b, layout::NEO_M),
+        dt_grad: b.get(layout::NEO_DT_GRAD),
     }
 }
 
 // What the strain rows take.
-fn strain_step(b: &[u8], rot: Mat3, coeffs: Four, impulse: &[f32; 6], vel: Holds) -> [f32; 6]
-    requires { (678 ≤ length b.now) × AllWritten b.now }
-    ensures { result ≡ spec.strain_step_at rot coeffs impulse.now vel b.now }
+#[tactic(auto, unfolding(neo_hookean::specs::NeoHookean::strain_step, crate::specs::Parts::strain_step_at))]
+fn strain_step(b: Bytes, rows: StrainRows, impulse: &[f32; 6], vel: Holds) -> [f32; 6]
+    ensures { result ≡ spec.strain_step_at rows.rot rows.coeffs impulse.now vel b.entry.bytes.now }
 {
-    let rate = cell::solve::strain_rates(rot, coeffs, vel);
-    let residual = neo_hookean::iteration::pulled(stiffness_of(b), &rate, impulse);
-    cell_record::eased_at(b, &residual)
+    let rate = rows.rates(vel);
+    let residual = stiffness_of(b).pulled(&rate, impulse);
+    cell_record::eased_at(b.at_least(), &residual)
 }
 
-pub fn solved(b: &[u8], vel: Holds) -> Solved
-    requires { (678 ≤ length b.now) × AllWritten b.now }
-    ensures { result ≡ n.solve (neo_hookean_of b.now) vel }
+#[tactic(auto, unfolding(
+    neo_hookean::specs::Row::solve,
+    neo_hookean::specs::NeoHookean::solve_neo_hookean,
+    stored::specs::Read::cell_of,
+    stored::specs::Read::pose_of,
+    stored::specs::Read::stiffness_of,
+    stored::specs::Read::neo_hookean_of,
+    cell_record::specs::Rows::strain_rows,
+    crate::specs::Parts::strain_step_at,
+))]
+pub fn solved(b: Bytes, vel: Holds) -> Solved<Impulses>
+    ensures { result ≡ n.solve (neo_hookean_of b.entry.bytes.now) vel }
 {
-    let rot = mat3_at(b, layout::ELASTIC_ROT_MAT);
-    let coeffs = four_at(b, layout::ELASTIC_COEFFS);
-    let im = masses_at(b, layout::ROW_IM);
-    let l = impulses_of(b);
-    let impulse = l.strain;
-    let d = strain_step(b, rot, coeffs, &impulse, vel);
-    neo_hookean::iteration::applied(rot, coeffs, im, l, &d)
+    let rows = strain_rows(b.at_least(), b.get(layout::ELASTIC_ROT_MAT));
+    let l = impulses_of(b.at_least());
+    let d = strain_step(b, rows, &l.strain, vel);
+    neo_hookean::iteration::applied(rows, l, &d)
 }
 
 // The volumetric impulse is not written: this model never uses it.
@@ -208,6 +192,5 @@ pub fn put_solved(b: &mut [u8], l: Impulses)
     requires { 678 ≤ length b.old }
     ensures { (b.new ≡ put_floats 6 b.old at.elastic_strain_impulse l.strain) × Kept b.old b.new }
 {
-    let strain = l.strain;
-    put_floats6(b, layout::ELASTIC_STRAIN_IMPULSE, &strain);
+    l.strain.put(b, layout::ELASTIC_STRAIN_IMPULSE);
 }

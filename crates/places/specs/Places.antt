@@ -5,9 +5,13 @@ use Rattle.vector.specs.Vector.{dot}
 use Rattle.vector.specs.declared.Vec3.{Vec3}
 use Rattle.vector.specs.declared.Four.{Four}
 
--- a position or a velocity of each place that is named
+-- a position or a velocity, where the place is named
+abbrev pub Held : Type 0
+Held = Option Vec3
+
+-- of each place
 abbrev pub Holds : Type 0
-Holds = Four (Option Vec3)
+Holds = Four Held
 
 abbrev pub Ids : Type 0
 Ids = Four ℕ
@@ -16,7 +20,7 @@ abbrev pub Masses : Type 0
 Masses = Four Float
 
 -- what the place holds where it is named, and the row's own value where it is skipped
-abbrev pub held_or : Option Vec3 → Vec3 → Vec3
+abbrev pub held_or : Held → Vec3 → Vec3
 held_or (Some x) v = x
 held_or None v = v
 
@@ -25,7 +29,7 @@ unfoldable pub refreshed : Holds → Four Vec3 → Four Vec3
 refreshed h pos = record { a = held_or h.a pos.a; b = held_or h.b pos.b; c = held_or h.c pos.c; d = held_or h.d pos.d }
 
 -- r and g·v, where the place is named
-abbrev pub add_rate : Float → Vec3 → Option Vec3 → Float
+abbrev pub add_rate : Float → Vec3 → Held → Float
 add_rate r g (Some v) = r ⊕ dot g v
 add_rate r g None = r
 

@@ -17,10 +17,10 @@ use Rattle.relisting.specs.Steps.{fetch, alter, alters}
 use Rattle.vector.specs.Vector.{zero_vector}
 use Rattle.vector.specs.declared.Vec3.{Vec3}
 use Rattle.vector.specs.declared.Four.{Four}
-use Rattle.places.specs.declared.Ids.{Ids}
+use Rattle.places.specs.Places.{Ids}
 use Rattle.rows.specs.Row.{nobody, places, value_of, held_at, holds_of, keep_if, loss_of, losses_of, four}
 use Rattle.stored.specs.Points.{lose}
-use Rattle.points.specs.InFrame.{Sized, on_part, point_in, held_in, holds_in, taken_at, taken}
+use Rattle.points.specs.InFrame.{Sized, on_part, point_in, named, held_in, holds_in, taken_at, taken}
 
 pub length-points : (ps : List (List ℕ)) → Sized ps → length (flatten ps) ≡ 30 * length ps
 unfolding flatten Sized
@@ -125,10 +125,10 @@ first_lost N i x cs ps = go (ltb i N)
     go false = refl
 
 -- the points after four losses
-abbrev pub lost_four : ℕ → List (List ℕ) → Ids → Four → List (List ℕ)
+abbrev pub lost_four : ℕ → List (List ℕ) → Ids → Four Vec3 → List (List ℕ)
 lost_four N ps i x = lost_at N (lost_at N (lost_at N (lost_at N ps i.a x.a) i.b x.b) i.c x.c) i.d x.d
 
-pub losses_are : (N : ℕ) (i : Ids) (x : Four) (ps : List (List ℕ)) → alters lose (losses_of N (places i) (four x)) ps ≡ lost_four N ps i x
+pub losses_are : (N : ℕ) (i : Ids) (x : Four Vec3) (ps : List (List ℕ)) → alters lose (losses_of N (places i) (four x)) ps ≡ lost_four N ps i x
 losses_are N i x ps =
     first_lost N i.a x.a (loss_of N i.b x.b (loss_of N i.c x.c (loss_of N i.d x.d []))) ps
     ∙ first_lost N i.b x.b (loss_of N i.c x.c (loss_of N i.d x.d [])) (lost_at N ps i.a x.a)
@@ -141,7 +141,7 @@ module _ (H : List ℕ) (e : length H ≡ 26) (N : ℕ) where
   held_bridge : (what : List ℕ → Vec3) (ps : List (List ℕ)) (B : List ℕ) (i : ℕ) → length ps ≡ N → Sized ps
       → held_in what N (H ++ (flatten ps ++ B)) i ≡ held_at what i (get_elem? ps i)
   unfolding held_in
-  held_bridge what ps B i n z = ap (λ (v : Vec3). record { named = not (eqb i nobody); value = v }) (go (ltb i N) refl)
+  held_bridge what ps B i n z = ap (named i) (go (ltb i N) refl)
     where
       go : (t : Bool) → ltb i N ≡ t → cond t (what (point_in (H ++ (flatten ps ++ B)) i)) zero_vector ≡ value_of what (get_elem? ps i)
       go true q = point_here what ps H B 26 i e z (omega (arith, ltb-true i N q))
@@ -166,7 +166,7 @@ module _ (H : List ℕ) (e : length H ≡ 26) (N : ℕ) where
       go true q = take-here x ps H B 26 i e z (omega (arith, ltb-true i N q))
       go false q = refl
 
-  pub taken_bridge : ((x : Vec3) (p : List ℕ) → length (lose x p) ≡ length p) → (ps : List (List ℕ)) (B : List ℕ) (i : Ids) (x : Four) → length ps ≡ N → Sized ps
+  pub taken_bridge : ((x : Vec3) (p : List ℕ) → length (lose x p) ≡ length p) → (ps : List (List ℕ)) (B : List ℕ) (i : Ids) (x : Four Vec3) → length ps ≡ N → Sized ps
       → taken N (H ++ (flatten ps ++ B)) i x ≡ H ++ (flatten (alters lose (losses_of N (places i) (four x)) ps) ++ B)
   unfolding taken
   taken_bridge keeps ps B i x n z =

@@ -1,4 +1,3 @@
 -- Points in a frame are the rules on lists of points. Assumes nothing.
-pub mod Steps
 pub mod Bridge
 pub mod Moved

@@ -1,35 +1,33 @@
 -- Laws of a frame whose velocities are set apart: its rows are where they are, and fetching and taking apart is fetching and taking in it. Assumes nothing.
 use Prim.Native.Nat.{ℕ, zero, suc, ◌+◌, ◌*◌, ◌≤◌, ◌<◌}
 use mathlib.Core.Path.{◌≡◌, refl, sym, ap, ◌∙◌, subst}
-use mathlib.Core.Bool.{Bool, true, false, cond, not}
+use mathlib.Core.Bool.{Bool, true, false, cond}
 use mathlib.Core.Logic.{◌⊎◌, inl, inr}
 use mathlib.Core.List.{List, [], ◌∷◌, ◌++◌}
 use native.Mathlib.Omega.{arith}
 use native.Mathlib.Nat.{add-zero}
 use native.Mathlib.Numerals.{add-one}
-use lib.Dec.{T, ltb, eqb}
-use lib.Ieee.{Float, binary32, fits, of_bits, nan}
+use lib.Dec.{ltb}
+use lib.Ieee.{binary32, of_bits}
 use lib.Ieee.Fits.{sub-fits, nan-fits}
 use lib.Ieee.Bits.{of_bits-fits}
 use lib.ListN.{length, replicate, set, take, drop, take-append-drop, length-set}
 use lib.Seq.{sets, set-set, set_comm, length-take-le, take_at, drop_at, drop-drop, get_or-set_same, get_or-set_other}
 use borrow.Author.Count.{below_more}
-use borrow.Author.Tests.{ltb-true, ltb-false, lt-ltb, le-ltb}
-use Rattle.real.specs.Float.{at}
+use borrow.Author.Tests.{ltb-true, ltb-false}
 use Rattle.little_endian.specs.Bytes.{le32, f32_at, f32_bytes, part}
 use Rattle.little_endian.proofs.Parts.{Bytes, le32_part, length_part}
 use Rattle.little_endian.proofs.Patch.{sets-left, sets-middle, sets-comm, f32_back, Beside, le32_beside}
 use Rattle.vector.specs.declared.Vec3.{Vec3}
 use Rattle.vector.specs.declared.Four.{Four}
 use Rattle.vector.specs.Vector.{sub, zero_vector}
-use Rattle.places.specs.declared.Ids.{Ids}
-use Rattle.rows.specs.Row.{nobody}
+use Rattle.places.specs.Places.{Ids}
 use Rattle.floats.specs.Fields.{vec3_at, put_f32, put_vec3}
 use Rattle.floats.proofs.Lengths.{length-put_f32, length-put_vec3}
 use Rattle.floats.proofs.Same.{Finite3, put_vec3_same, vec3_beside}
 use Rattle.stored.specs.Points.{lose, position, velocity}
-use Rattle.points.specs.InFrame.{on_part, place_of, point_in, held_in, holds_in, taken_at, taken}
-use Rattle.points.specs.Apart.{velocity_at, vec_of, set_vec, moved, AllFit, Fit, Apart, held_of, holds_of, lost_at, lost}
+use Rattle.points.specs.InFrame.{on_part, place_of, point_in, named, held_in, holds_in, taken_at, taken}
+use Rattle.points.specs.Apart.{velocity_at, no_vector, vec_of, set_vec, moved, Fit3, AllFit, Fit, Apart, held_of, holds_of, lost_at, lost}
 
 -- ---- a vector put is twelve bytes set
 
@@ -81,11 +79,6 @@ put_middle A r B off k w e h =
     put_as (A ++ (r ++ B)) (off + k) w ∙ sets-middle (vec_bytes w) A r B off k e h ∙ ap (λ (l : List ℕ). A ++ (l ++ B)) (sym (put_as r k w))
 
 -- what was put is read
-pub record Fit3 (w : Vec3) : Type 0 where
-  pub x : T (fits binary32 w.x)
-  pub y : T (fits binary32 w.y)
-  pub z : T (fits binary32 w.z)
-
 vec3_back : (b : List ℕ) (k : ℕ) (w : Vec3) → k + 12 ≤ length b → Fit3 w → vec3_at (put_vec3 b k w) k ≡ w
 unfolding vec3_at put_vec3
 vec3_back b k w h f =
@@ -100,19 +93,19 @@ vec3_back b k w h f =
 
 -- ---- the rows are where they are
 
-pub length_moved : (n : ℕ) (v : List Float) (s : List ℕ) → length (moved n v s) ≡ length s
+pub length_moved : (n : ℕ) (v : List Vec3) (s : List ℕ) → length (moved n v s) ≡ length s
 unfolding moved
 length_moved zero v s = refl
 length_moved (suc n) v s = length-put_vec3 (moved n v s) (velocity_at n) (vec_of v n) ∙ length_moved n v s
 
-moved_front : (n : ℕ) (v : List Float) (A B : List ℕ) → 26 + 30 * n ≤ length A → moved n v (A ++ B) ≡ moved n v A ++ B
+moved_front : (n : ℕ) (v : List Vec3) (A B : List ℕ) → 26 + 30 * n ≤ length A → moved n v (A ++ B) ≡ moved n v A ++ B
 unfolding moved
 moved_front zero v A B h = refl
 moved_front (suc n) v A B h =
     ap (λ (l : List ℕ). put_vec3 l (velocity_at n) (vec_of v n)) (moved_front n v A B (omega arith))
     ∙ put_left (moved n v A) B (velocity_at n) (vec_of v n) (omega (arith, length_moved n v A))
 
-module _ (n : ℕ) (v : List Float) (s : List ℕ) (off : ℕ) (h : 26 + 30 * n ≤ off) (k : off ≤ length s) where
+module _ (n : ℕ) (v : List Vec3) (s : List ℕ) (off : ℕ) (h : 26 + 30 * n ≤ off) (k : off ≤ length s) where
   cut : moved n v s ≡ moved n v (take off s) ++ drop off s
   cut = ap (moved n v) (sym (take-append-drop off s)) ∙ moved_front n v (take off s) (drop off s) (omega (arith, length-take-le off s k))
 
@@ -136,25 +129,21 @@ module _ (n : ℕ) (v : List Float) (s : List ℕ) (off : ℕ) (h : 26 + 30 * n 
 
 -- ---- what the points hold
 
-vec_fits : (v : List Float) → AllFit v → (i : ℕ) → Fit3 (vec_of v i)
-unfolding vec_of
-vec_fits v f i = record { x = f (3 * i); y = f (3 * i + 1); z = f (3 * i + 2) }
-
 -- the velocity of a point further on is beside that of this one
 further_on : (i n : ℕ) → i < n → velocity_at i + 12 ≤ velocity_at n
 further_on i n h = omega arith
 
-pub moved_velocity : (v : List Float) → AllFit v → (s : List ℕ) (n : ℕ) → 26 + 30 * n ≤ length s → (i : ℕ) → i < n → vec3_at (moved n v s) (velocity_at i) ≡ vec_of v i
+pub moved_velocity : (v : List Vec3) → AllFit v → (s : List ℕ) (n : ℕ) → 26 + 30 * n ≤ length s → (i : ℕ) → i < n → vec3_at (moved n v s) (velocity_at i) ≡ vec_of v i
 unfolding moved
 moved_velocity v f s zero h i l = absurd (omega arith)
 moved_velocity v f s (suc n) h i l =
     below_more (λ k. vec3_at (moved (suc n) v s) (velocity_at k) ≡ vec_of v k) n
     (λ k b. vec3_beside (moved n v s) (velocity_at n) (vec_of v n) (velocity_at k) (inl (further_on k n b)) ∙ moved_velocity v f s n (omega arith) k b)
-    (vec3_back (moved n v s) (velocity_at n) (vec_of v n) (omega (arith, length_moved n v s)) (vec_fits v f n))
+    (vec3_back (moved n v s) (velocity_at n) (vec_of v n) (omega (arith, length_moved n v s)) (f n))
     i (omega arith)
 
 -- a vector that lies beside all velocities
-moved_beside : (v : List Float) (s : List ℕ) (n k : ℕ) → ((j : ℕ) → j < n → Beside k 12 (velocity_at j) 12) → vec3_at (moved n v s) k ≡ vec3_at s k
+moved_beside : (v : List Vec3) (s : List ℕ) (n k : ℕ) → ((j : ℕ) → j < n → Beside k 12 (velocity_at j) 12) → vec3_at (moved n v s) k ≡ vec3_at s k
 unfolding moved
 moved_beside v s zero k h = refl
 moved_beside v s (suc n) k h =
@@ -162,49 +151,20 @@ moved_beside v s (suc n) k h =
 
 -- ---- a velocity put
 
-vec_same : (v : List Float) (i : ℕ) (w : Vec3) → 3 * i + 3 ≤ length v → vec_of (set_vec v i w) i ≡ w
-unfolding vec_of set_vec
-vec_same v i w h =
-    let v1 = set v (3 * i) w.x in
-    let v2 = set v1 (3 * i + 1) w.y in
-    let l1 : length v1 ≡ length v = length-set v (3 * i) w.x in
-    let l2 : length v2 ≡ length v1 = length-set v1 (3 * i + 1) w.y in
-    let p0 = get_or-set_other v2 (3 * i + 2) (3 * i) w.z nan (λ e. omega arith) ∙ get_or-set_other v1 (3 * i + 1) (3 * i) w.y nan (λ e. omega arith) ∙ get_or-set_same v (3 * i) w.x nan (omega arith) in
-    let p1 = get_or-set_other v2 (3 * i + 2) (3 * i + 1) w.z nan (λ e. omega arith) ∙ get_or-set_same v1 (3 * i + 1) w.y nan (omega (arith, l1)) in
-    let p2 = get_or-set_same v2 (3 * i + 2) w.z nan (omega (arith, l1, l2)) in
-    λ j. record { x = p0 j; y = p1 j; z = p2 j }
+vec_same : (v : List Vec3) (i : ℕ) (w : Vec3) → i < length v → vec_of (set_vec v i w) i ≡ w
+vec_same v i w h = get_or-set_same v i w no_vector h
 
-set_other : (v : List Float) (i k : ℕ) (w : Vec3) → (k < 3 * i) ⊎ (3 * i + 3 ≤ k) → at (set_vec v i w) k ≡ at v k
-unfolding set_vec
-set_other v i k w (inl h) =
-    let v1 = set v (3 * i) w.x in
-    let v2 = set v1 (3 * i + 1) w.y in
-    get_or-set_other v2 (3 * i + 2) k w.z nan (λ e. omega arith) ∙ get_or-set_other v1 (3 * i + 1) k w.y nan (λ e. omega arith) ∙ get_or-set_other v (3 * i) k w.x nan (λ e. omega arith)
-set_other v i k w (inr h) =
-    let v1 = set v (3 * i) w.x in
-    let v2 = set v1 (3 * i + 1) w.y in
-    get_or-set_other v2 (3 * i + 2) k w.z nan (λ e. omega arith) ∙ get_or-set_other v1 (3 * i + 1) k w.y nan (λ e. omega arith) ∙ get_or-set_other v (3 * i) k w.x nan (λ e. omega arith)
-
-vec_other : (v : List Float) (i j : ℕ) (w : Vec3) → (j < i) ⊎ (i < j) → vec_of (set_vec v i w) j ≡ vec_of v j
-unfolding vec_of
-vec_other v i j w (inl h) =
-    let p0 = set_other v i (3 * j) w (inl (omega arith)) in
-    let p1 = set_other v i (3 * j + 1) w (inl (omega arith)) in
-    let p2 = set_other v i (3 * j + 2) w (inl (omega arith)) in
-    λ m. record { x = p0 m; y = p1 m; z = p2 m }
-vec_other v i j w (inr h) =
-    let p0 = set_other v i (3 * j) w (inr (omega arith)) in
-    let p1 = set_other v i (3 * j + 1) w (inr (omega arith)) in
-    let p2 = set_other v i (3 * j + 2) w (inr (omega arith)) in
-    λ m. record { x = p0 m; y = p1 m; z = p2 m }
+vec_other : (v : List Vec3) (i j : ℕ) (w : Vec3) → (j < i) ⊎ (i < j) → vec_of (set_vec v i w) j ≡ vec_of v j
+vec_other v i j w (inl h) = get_or-set_other v i j w no_vector (λ e. omega arith)
+vec_other v i j w (inr h) = get_or-set_other v i j w no_vector (λ e. omega arith)
 
 -- only the first n velocities count
-moved_alike : (v u : List Float) (s : List ℕ) (n : ℕ) → ((j : ℕ) → j < n → vec_of v j ≡ vec_of u j) → moved n v s ≡ moved n u s
+moved_alike : (v u : List Vec3) (s : List ℕ) (n : ℕ) → ((j : ℕ) → j < n → vec_of v j ≡ vec_of u j) → moved n v s ≡ moved n u s
 unfolding moved
 moved_alike v u s zero h = refl
 moved_alike v u s (suc n) h = λ m. put_vec3 (moved_alike v u s n (λ j b. h j (omega arith)) m) (velocity_at n) (h n (omega arith) m)
 
-moved_put : (v : List Float) (s : List ℕ) (w : Vec3) (n : ℕ) → 3 * n ≤ length v → (i : ℕ) → i < n → put_vec3 (moved n v s) (velocity_at i) w ≡ moved n (set_vec v i w) s
+moved_put : (v : List Vec3) (s : List ℕ) (w : Vec3) (n : ℕ) → n ≤ length v → (i : ℕ) → i < n → put_vec3 (moved n v s) (velocity_at i) w ≡ moved n (set_vec v i w) s
 unfolding moved
 moved_put v s w zero h i l = absurd (omega arith)
 moved_put v s w (suc n) h i l =
@@ -216,7 +176,7 @@ moved_put v s w (suc n) h i l =
 
 -- ---- nothing has moved yet
 
-pub none_moved : (v : List Float) (s : List ℕ) (n : ℕ) → Bytes s → ((i : ℕ) → i < n → Finite3 s (velocity_at i)) → Apart n s v → moved n v s ≡ s
+pub none_moved : (v : List Vec3) (s : List ℕ) (n : ℕ) → Bytes s → ((i : ℕ) → i < n → Finite3 s (velocity_at i)) → Apart n s v → moved n v s ≡ s
 unfolding moved
 none_moved v s zero y f a = refl
 none_moved v s (suc n) y f a =
@@ -235,7 +195,7 @@ vec3_part s off k h =
     let p2 = ap (of_bits binary32) (le32_part s off 30 (k + 8) (omega arith)) ∙ ap (f32_at s) e2 in
     λ j. record { x = p0 j; y = p1 j; z = p2 j }
 
-module _ (n : ℕ) (v : List Float) (s : List ℕ) (h : 26 + 30 * n ≤ length s) where
+module _ (n : ℕ) (v : List Vec3) (s : List ℕ) (h : 26 + 30 * n ≤ length s) where
   position_moved : (id : ℕ) → id < n → position (point_in (moved n v s) id) ≡ position (point_in s id)
   unfolding position
   position_moved id l =
@@ -250,7 +210,7 @@ module _ (n : ℕ) (v : List Float) (s : List ℕ) (h : 26 + 30 * n ≤ length s
 
   position_held : (id : ℕ) → held_in position n (moved n v s) id ≡ held_in position n s id
   unfolding held_in
-  position_held id = ap (λ (w : Vec3). record { named = not (eqb id nobody); value = w }) (go (ltb id n) refl)
+  position_held id = ap (named id) (go (ltb id n) refl)
     where
       go : (t : Bool) → ltb id n ≡ t → cond t (position (point_in (moved n v s) id)) zero_vector ≡ cond t (position (point_in s id)) zero_vector
       go true q = position_moved id (ltb-true id n q)
@@ -267,7 +227,7 @@ module _ (n : ℕ) (v : List Float) (s : List ℕ) (h : 26 + 30 * n ≤ length s
 
     held_apart : (id : ℕ) → held_of n v id ≡ held_in velocity n (moved n v s) id
     unfolding held_in held_of
-    held_apart id = ap (λ (w : Vec3). record { named = not (eqb id nobody); value = w }) (go (ltb id n) refl)
+    held_apart id = ap (named id) (go (ltb id n) refl)
       where
         go : (t : Bool) → ltb id n ≡ t → cond t (vec_of v id) zero_vector ≡ cond t (velocity (point_in (moved n v s) id)) zero_vector
         go true q = sym (velocity_here id (ltb-true id n q))
@@ -303,29 +263,21 @@ module _ (n : ℕ) (v : List Float) (s : List ℕ) (h : 26 + 30 * n ≤ length s
 
 -- ---- a list of as many f32 stays one
 
-fit_set : (v : List Float) (i : ℕ) (a : Float) → AllFit v → T (fits binary32 a) → AllFit (set v i a)
+fit_set : (v : List Vec3) (i : ℕ) (a : Vec3) → AllFit v → Fit3 a → AllFit (set v i a)
 fit_set [] i a f h k = f k
 fit_set (x ∷ v) zero a f h zero = h
 fit_set (x ∷ v) zero a f h (suc k) = f (suc k)
 fit_set (x ∷ v) (suc i) a f h zero = f zero
 fit_set (x ∷ v) (suc i) a f h (suc k) = fit_set v i a (λ m. f (suc m)) h k
 
-pub length-vec : (v : List Float) (i : ℕ) (w : Vec3) → length (set_vec v i w) ≡ length v
-unfolding set_vec
-length-vec v i w = length-set (set (set v (3 * i) w.x) (3 * i + 1) w.y) (3 * i + 2) w.z ∙ length-set (set v (3 * i) w.x) (3 * i + 1) w.y ∙ length-set v (3 * i) w.x
-
-pub fit_vec : (v : List Float) (i : ℕ) (w : Vec3) → Fit v → Fit3 w → Fit (set_vec v i w)
-unfolding set_vec
-fit_vec v i w f h = record {
-  long = length-vec v i w ∙ f.long;
-  all = fit_set (set (set v (3 * i) w.x) (3 * i + 1) w.y) (3 * i + 2) w.z (fit_set (set v (3 * i) w.x) (3 * i + 1) w.y (fit_set v (3 * i) w.x f.all h.x) h.y) h.z;
-}
+pub fit_vec : (v : List Vec3) (i : ℕ) (w : Vec3) → Fit v → Fit3 w → Fit (set_vec v i w)
+fit_vec v i w f h = record { long = length-set v i w ∙ f.long; all = fit_set v i w f.all h }
 
 sub_fits3 : (a b : Vec3) → Fit3 (sub a b)
 unfolding sub
 sub_fits3 a b = record { x = sub-fits binary32 a.x b.x; y = sub-fits binary32 a.y b.y; z = sub-fits binary32 a.z b.z }
 
-module _ (n : ℕ) (id : ℕ) (x : Vec3) (v : List Float) where
+module _ (n : ℕ) (id : ℕ) (x : Vec3) (v : List Vec3) where
   fit_lost_at : Fit v → Fit (lost_at n v id x)
   unfolding lost_at
   fit_lost_at f = go (ltb id n)
@@ -334,14 +286,14 @@ module _ (n : ℕ) (id : ℕ) (x : Vec3) (v : List Float) where
       go true = fit_vec v id (sub (vec_of v id) x) f (sub_fits3 (vec_of v id) x)
       go false = f
 
-module _ (n : ℕ) (v : List Float) (i : Ids) (x : Four) where
-  abbrev v1 : List Float
+module _ (n : ℕ) (v : List Vec3) (i : Ids) (x : Four Vec3) where
+  abbrev v1 : List Vec3
   v1 = lost_at n v i.a x.a
 
-  abbrev v2 : List Float
+  abbrev v2 : List Vec3
   v2 = lost_at n v1 i.b x.b
 
-  abbrev v3 : List Float
+  abbrev v3 : List Vec3
   v3 = lost_at n v2 i.c x.c
 
   module _ (f : Fit v) where
@@ -370,7 +322,7 @@ module _ (n : ℕ) (v : List Float) (i : Ids) (x : Four) where
 
 -- ---- one velocity after another set apart
 
-pub apart_more : (s : List ℕ) (v : List Float) (i : ℕ) (w : Vec3) → 3 * i + 3 ≤ length v → Apart i s v → w ≡ vec3_at s (velocity_at i) → Apart (i + 1) s (set_vec v i w)
+pub apart_more : (s : List ℕ) (v : List Vec3) (i : ℕ) (w : Vec3) → i < length v → Apart i s v → w ≡ vec3_at s (velocity_at i) → Apart (i + 1) s (set_vec v i w)
 apart_more s v i w h a e =
     below_more (λ k. vec_of (set_vec v i w) k ≡ vec3_at s (velocity_at k)) i
     (λ k b. vec_other v i k w (inl b) ∙ a k b)
@@ -381,56 +333,35 @@ unfolding vec3_at
 read_fits s k = record { x = of_bits-fits binary32 (le32 s k); y = of_bits-fits binary32 (le32 s (k + 4)); z = of_bits-fits binary32 (le32 s (k + 8)) }
 
 -- the loop that sets them apart
-pub gathered_more : (s : List ℕ) (v v' : List Float) (i : ℕ) (w : Vec3) → i < 4096 → Apart i s v → Fit v → w ≡ vec3_at s (velocity_at i) → v' ≡ set_vec v i w → Apart (i + 1) s v' × Fit v'
+pub gathered_more : (s : List ℕ) (v v' : List Vec3) (i : ℕ) (w : Vec3) → i < 4096 → Apart i s v → Fit v → w ≡ vec3_at s (velocity_at i) → v' ≡ set_vec v i w → Apart (i + 1) s v' × Fit v'
 gathered_more s v v' i w h a f e g =
-    subst (λ (u : List Float). Apart (i + 1) s u × Fit u) (sym g)
+    subst (λ (u : List Vec3). Apart (i + 1) s u × Fit u) (sym g)
     (apart_more s v i w (omega (arith, f.long)) a e, fit_vec v i w f (subst Fit3 (sym e) (read_fits s (velocity_at i))))
 
 -- and the one that puts them back
-module _ (v : List Float) (s₀ : List ℕ) (i : ℕ) (s : List ℕ) (e : s ≡ moved i v s₀) where
-  pub scattered_long : length s ≡ length s₀
-  scattered_long = ap length e ∙ length_moved i v s₀
-
+module _ (v : List Vec3) (s₀ : List ℕ) (i : ℕ) (s : List ℕ) (e : s ≡ moved i v s₀) where
   pub scattered_more : (s' : List ℕ) (w : Vec3) → w ≡ vec_of v i → s' ≡ put_vec3 s (velocity_at i) w → s' ≡ moved (i + 1) v s₀
   unfolding moved
   scattered_more s' w f g = g ∙ (λ m. put_vec3 (e m) (velocity_at i) (f m)) ∙ ap (λ (k : ℕ). moved k v s₀) (sym (add-one i))
 
-  pub scattered_all : (n : ℕ) → i ≤ n → n ≤ i → s ≡ moved n v s₀
-  scattered_all n h k = let q : i ≡ n = omega arith in e ∙ ap (λ (j : ℕ). moved j v s₀) q
-
-pub scattered_none : (v : List Float) (s : List ℕ) → s ≡ moved 0 v s
+pub scattered_none : (v : List Vec3) (s : List ℕ) → s ≡ moved 0 v s
 unfolding moved
 scattered_none v s = refl
 
--- ---- what the code that fetches and takes returns
+-- ---- an array of one vector
 
-module _ (n : ℕ) (v : List Float) (id : ℕ) where
-  pub held_in_lem : id < n → (t : Bool) (w : Vec3) → t ≡ not (eqb id nobody) → w ≡ vec_of v id → record { named = t; value = w } ≡ held_of n v id
-  unfolding held_of
-  held_in_lem h t w e g = simp (g, e, lt-ltb id n h)
+all_same : (n : ℕ) (w : Vec3) → Fit3 w → AllFit (replicate n w)
+all_same zero w h k = record { x = nan-fits binary32; y = nan-fits binary32; z = nan-fits binary32 }
+all_same (suc n) w h zero = h
+all_same (suc n) w h (suc k) = all_same n w h k
 
-  pub held_out : n ≤ id → (t : Bool) (w : Vec3) → t ≡ not (eqb id nobody) → w ≡ zero_vector → record { named = t; value = w } ≡ held_of n v id
-  unfolding held_of
-  held_out h t w e g = simp (g, e, le-ltb id n h)
+long_same : (n : ℕ) (w : Vec3) → length (replicate n w) ≡ n
+long_same zero w = refl
+long_same (suc n) w = ap suc (long_same n w)
 
-  pub lost_in : id < n → (x w y : Vec3) {v' : List Float} → w ≡ vec_of v id → y ≡ sub w x → v' ≡ set_vec v id y → v' ≡ lost_at n v id x
-  unfolding lost_at
-  lost_in h x w y e f g = g ∙ ap (set_vec v id) (f ∙ ap (λ (z : Vec3). sub z x) e) ∙ simp (lt-ltb id n h)
+pub fit_same : (w : Vec3) → Fit3 w → Fit (replicate 4096 w)
+fit_same w h = record { long = long_same 4096 w; all = all_same 4096 w h }
 
-  pub lost_out : n ≤ id → (x : Vec3) → v ≡ lost_at n v id x
-  unfolding lost_at
-  lost_out h x = simp (le-ltb id n h)
-
--- ---- an array of one number
-
-all_same : (n : ℕ) (x : Float) → T (fits binary32 x) → AllFit (replicate n x)
-all_same zero x h k = nan-fits binary32
-all_same (suc n) x h zero = h
-all_same (suc n) x h (suc k) = all_same n x h k
-
-long_same : (n : ℕ) (x : Float) → length (replicate n x) ≡ n
-long_same zero x = refl
-long_same (suc n) x = ap suc (long_same n x)
-
-pub fit_same : (b : ℕ) → Fit (replicate 12288 (of_bits binary32 b))
-fit_same b = record { long = long_same 12288 (of_bits binary32 b); all = all_same 12288 (of_bits binary32 b) (of_bits-fits binary32 b) }
+pub fit_zeros : Fit (replicate 4096 zero_vector)
+unfolding zero_vector
+fit_zeros = fit_same zero_vector (record { x = of_bits-fits binary32 0; y = of_bits-fits binary32 0; z = of_bits-fits binary32 0 })

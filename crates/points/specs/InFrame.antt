@@ -1,13 +1,11 @@
 -- What the code that fetches from points and takes from them is proved equal to, on the bytes of a whole frame. A reader of the rules does not need it: proofs/Bridge.antt shows that it is the rules on lists of points. Definitions only. Assumes nothing.
-use Rattle.std.specs.Prelude.{ℕ, ◌+◌, ◌*◌, cond, not, List, [], ◌∷◌, ◌++◌, ◌≡◌, ltb, eqb, length, take, drop}
+use Rattle.std.specs.Prelude.{ℕ, ◌+◌, ◌*◌, cond, List, [], ◌∷◌, ◌++◌, ◌≡◌, ltb, eqb, length, take, drop, Option, Some, None}
 use Rattle.little_endian.specs.Bytes.{part}
 use Rattle.records.specs.Layout.{head_end, point_end}
 use Rattle.vector.specs.Vector.{zero_vector}
 use Rattle.vector.specs.declared.Vec3.{Vec3}
 use Rattle.vector.specs.declared.Four.{Four}
-use Rattle.places.specs.declared.Ids.{Ids}
-use Rattle.places.specs.declared.Held.{Held}
-use Rattle.places.specs.declared.Holds.{Holds}
+use Rattle.places.specs.Places.{Holds, Ids}
 use Rattle.rows.specs.Row.{nobody}
 use Rattle.stored.specs.Points.{lose}
 
@@ -30,8 +28,11 @@ point_in s id = part (place_of id) point_end s
 
 -- ---- fetch: `what` is a point's position or its velocity; an id that is not below N holds zeros, and 0xFFFFFFFF is skipped
 
-unfoldable pub held_in : (List ℕ → Vec3) → ℕ → List ℕ → ℕ → Held
-held_in what N s id = record { named = not (eqb id nobody); value = cond (ltb id N) (what (point_in s id)) zero_vector }
+abbrev pub named : ℕ → Vec3 → Option Vec3
+named id x = cond (eqb id nobody) None (Some x)
+
+unfoldable pub held_in : (List ℕ → Vec3) → ℕ → List ℕ → ℕ → Option Vec3
+held_in what N s id = named id (cond (ltb id N) (what (point_in s id)) zero_vector)
 
 unfoldable pub holds_in : (List ℕ → Vec3) → ℕ → List ℕ → Ids → Holds
 holds_in what N s i = record { a = held_in what N s i.a; b = held_in what N s i.b; c = held_in what N s i.c; d = held_in what N s i.d }
@@ -41,5 +42,5 @@ holds_in what N s i = record { a = held_in what N s i.a; b = held_in what N s i.
 unfoldable pub taken_at : ℕ → List ℕ → ℕ → Vec3 → List ℕ
 taken_at N s id x = cond (ltb id N) (on_part (place_of id) point_end (lose x) s) s
 
-unfoldable pub taken : ℕ → List ℕ → Ids → Four → List ℕ
+unfoldable pub taken : ℕ → List ℕ → Ids → Four Vec3 → List ℕ
 taken N s i x = taken_at N (taken_at N (taken_at N (taken_at N s i.a x.a) i.b x.b) i.c x.c) i.d x.d

@@ -1,3 +1,2 @@
--- A row of each kind, and its record in a frame. Assumes nothing.
+-- A row of each kind. Assumes nothing.
 pub mod ByKind
-pub mod InFrame

@@ -1,3 +1,2 @@
--- One row in its frame. Assumes nothing.
+-- One row on the bytes of its record. Assumes nothing.
 pub mod Widths
-pub mod InFrame

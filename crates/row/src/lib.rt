@@ -1,17 +1,17 @@
-// One row in its frame, by its kind: 3 scalar, 4 corotational, 5 neo-Hookean.
+// The phases of one row on the bytes of its record, by its kind.
 #![tactic(auto)]
 
 ghost use Rattle.std.specs.Prelude.{◌≡◌, ℕ, ◌≤◌, length};
 ghost use Rattle.little_endian.specs.Bytes.{le16};
+ghost use Rattle.floats.specs.Written.{AllWritten};
 ghost use Rattle.rows.specs.Row as rows;
 ghost use Rattle.stored.specs.Phases as spec;
-ghost use Rattle.records.specs.Records.{record_at};
-ghost use Rattle.row.specs.Widths.{row_length};
-ghost use Rattle.row.specs.InFrame.{Stands, Anew};
+ghost use Rattle.row.specs.Widths.{row_length, Whole};
 
+use floats::row_bytes::RowBytes;
 use places::{Holds, Ids};
-use records::layout;
-use vector::Four;
+use records::{RowKind, layout};
+use vector::{Four, Vec3};
 
 // A place past a scalar row's count is not named.
 fn counted(count: u16, k: u16, id: u32) -> u32
@@ -20,10 +20,11 @@ fn counted(count: u16, k: u16, id: u32) -> u32
     if k < count { id } else { 0xffff_ffff }
 }
 
+#[tactic(auto, unfolding(stored::specs::Phases::counted_ids))]
 fn counted_ids(count: u16, i: Ids) -> Ids
     ensures { result ≡ spec.counted_ids count i }
 {
-    Ids {
+    Four {
         a: counted(count, 0, i.a),
         b: counted(count, 1, i.b),
         c: counted(count, 2, i.c),
@@ -31,18 +32,20 @@ fn counted_ids(count: u16, i: Ids) -> Ids
     }
 }
 
+#[tactic(auto, using(crate::proofs::ByKind::long_row, crate::proofs::ByKind::names_of_kind))]
 pub fn names_at(b: &[u8]) -> Ids
     requires { row_length (le16 b.now 4) ≤ length b.now }
     ensures { result ≡ spec.names_at b.now }
 {
     let i = floats::ids_at(b, layout::ROW_IDS);
-    if little_endian::get_u16(b, layout::KIND_AT) == 3 {
-        return counted_ids(little_endian::get_u16(b, layout::SCALAR_COUNT), i);
+    match RowKind::of(b) {
+        RowKind::Scalar => counted_ids(little_endian::get_u16(b, layout::SCALAR_COUNT), i),
+        RowKind::Corotational | RowKind::NeoHookean => i,
     }
-    i
 }
 
 // Whether the row's flag is set.
+#[tactic(auto, using(crate::proofs::ByKind::long_row), unfolding(stored::specs::Phases::is_strained_at))]
 pub fn is_strained(b: &[u8]) -> bool
     requires { row_length (le16 b.now 4) ≤ length b.now }
     ensures { result ≡ spec.is_strained_at b.now }
@@ -50,72 +53,82 @@ pub fn is_strained(b: &[u8]) -> bool
     little_endian::get_u16(b, layout::ROW_STRAINED) == 1
 }
 
-// ---- the phases. The record stands at off and ends at e. It is read as a part of the frame, and then what the phase assigns is put there
+// ---- the phases. The record is read, and then what the phase assigns is put into it
 
-pub fn update_row(s: &mut [u8], off: usize, e: usize, held: Holds, least: f32)
-    requires { Stands off e s.old }
-    ensures { Anew off (spec.update_row least held) s.old s.new }
+pub fn update_row(b: &mut [u8], held: Holds, least: f32)
+    requires { Whole b.old }
+    ensures anew { b.new ≡ spec.update_row least held b.old }
+    ensures written { AllWritten b.new }
 {
-    let b = records::record_at(s, off);
-    let kind = little_endian::get_u16(b, layout::KIND_AT);
-    if kind == 3 {
-        let r = scalar_record::begun(b, held);
-        scalar_record::put_begun(&mut s[off..e], r, least);
-        return;
+    match RowKind::of(b) {
+        RowKind::Scalar => {
+            let r = scalar_record::begun(RowBytes { bytes: b }, held);
+            scalar_record::put_begun(b, r, least);
+        }
+        RowKind::Corotational => {
+            let u = corotational_record::updated(RowBytes { bytes: b }, held);
+            corotational_record::put_updated(b, u, least);
+        }
+        RowKind::NeoHookean => {
+            let row = RowBytes { bytes: b };
+            let u = neo_hookean_record::updated(row, held);
+            if neo_hookean_record::is_kept(row, u) {
+                neo_hookean_record::put_kept(b, u, least);
+            } else {
+                let k = neo_hookean_record::renewed(row, u);
+                neo_hookean_record::put_renewed(b, u, k, least);
+            }
+        }
     }
-    if kind == 4 {
-        let u = corotational_record::updated(b, held);
-        corotational_record::put_updated(&mut s[off..e], u, least);
-        return;
-    }
-    let u = neo_hookean_record::updated(b, held);
-    if neo_hookean_record::is_kept(b, u) {
-        neo_hookean_record::put_kept(&mut s[off..e], u, least);
-        return;
-    }
-    let k = neo_hookean_record::renewed(b, u);
-    neo_hookean_record::put_renewed(&mut s[off..e], u, k, least);
 }
 
 // What each place is to lose.
-pub fn warm_row(s: &mut [u8], off: usize, e: usize, coeff: f32) -> Four
-    requires { Stands off e s.old }
-    ensures { Anew off (spec.warm_row coeff) s.old s.new × (result ≡ spec.warm_loss coeff (record_at s.old off)) }
+pub fn warm_row(b: &mut [u8], coeff: f32) -> Four<Vec3>
+    requires { Whole b.old }
+    ensures anew { b.new ≡ spec.warm_row coeff b.old }
+    ensures written { AllWritten b.new }
+    ensures loss { result ≡ spec.warm_loss coeff b.old }
 {
-    let b = records::record_at(s, off);
-    let kind = little_endian::get_u16(b, layout::KIND_AT);
-    if kind == 3 {
-        let d = scalar_record::warmed(b, coeff);
-        scalar_record::put_impulse(&mut s[off..e], d.row);
-        return d.loss;
+    match RowKind::of(b) {
+        RowKind::Scalar => {
+            let d = scalar_record::warmed(RowBytes { bytes: b }, coeff);
+            scalar_record::put_impulse(b, d.state);
+            d.loss
+        }
+        RowKind::Corotational => {
+            let d = corotational_record::warmed(RowBytes { bytes: b }, coeff);
+            cell_record::put_impulses(b, d.state);
+            d.loss
+        }
+        RowKind::NeoHookean => {
+            let d = neo_hookean_record::warmed(RowBytes { bytes: b }, coeff);
+            cell_record::put_impulses(b, d.state);
+            d.loss
+        }
     }
-    if kind == 4 {
-        let d = corotational_record::warmed(b, coeff);
-        cell_record::put_impulses(&mut s[off..e], d.impulses);
-        return d.loss;
-    }
-    let d = neo_hookean_record::warmed(b, coeff);
-    cell_record::put_impulses(&mut s[off..e], d.impulses);
-    d.loss
 }
 
-pub fn solve_row(s: &mut [u8], off: usize, e: usize, vel: Holds) -> Four
-    requires { Stands off e s.old }
-    ensures { Anew off (spec.solve_row vel) s.old s.new × (result ≡ spec.solve_loss vel (record_at s.old off)) }
+pub fn solve_row(b: &mut [u8], vel: Holds) -> Four<Vec3>
+    requires { Whole b.old }
+    ensures anew { b.new ≡ spec.solve_row vel b.old }
+    ensures written { AllWritten b.new }
+    ensures loss { result ≡ spec.solve_loss vel b.old }
 {
-    let b = records::record_at(s, off);
-    let kind = little_endian::get_u16(b, layout::KIND_AT);
-    if kind == 3 {
-        let d = scalar_record::solved(b, vel);
-        scalar_record::put_impulse(&mut s[off..e], d.row);
-        return d.loss;
+    match RowKind::of(b) {
+        RowKind::Scalar => {
+            let d = scalar_record::solved(RowBytes { bytes: b }, vel);
+            scalar_record::put_impulse(b, d.state);
+            d.loss
+        }
+        RowKind::Corotational => {
+            let d = corotational_record::solved(RowBytes { bytes: b }, vel);
+            cell_record::put_impulses(b, d.state);
+            d.loss
+        }
+        RowKind::NeoHookean => {
+            let d = neo_hookean_record::solved(RowBytes { bytes: b }, vel);
+            neo_hookean_record::put_solved(b, d.state);
+            d.loss
+        }
     }
-    if kind == 4 {
-        let d = corotational_record::solved(b, vel);
-        cell_record::put_impulses(&mut s[off..e], d.impulses);
-        return d.loss;
-    }
-    let d = neo_hookean_record::solved(b, vel);
-    neo_hookean_record::put_solved(&mut s[off..e], d.impulses);
-    d.loss
 }

@@ -57,13 +57,13 @@ update_keeps (scalar r) held = record { names = refl; masses = refl }
 update_keeps (corotational r) held = record { names = refl; masses = refl }
 update_keeps (neo_hookean r) held = record { names = refl; masses = refl }
 
-warm_keeps : (c : Constraint) (k : Float) → Keeps c (warmstart_of c k).constraint
+warm_keeps : (c : Constraint) (k : Float) → Keeps c (warmstart_of c k).state
 unfolding warmstart_of names_of masses_of s.warmstart
 warm_keeps (scalar r) k = record { names = refl; masses = refl }
 warm_keeps (corotational r) k = record { names = refl; masses = refl }
 warm_keeps (neo_hookean r) k = record { names = refl; masses = refl }
 
-solve_keeps : (c : Constraint) (vel : Holds) → Keeps c (solve_of c vel).constraint
+solve_keeps : (c : Constraint) (vel : Holds) → Keeps c (solve_of c vel).state
 unfolding solve_of names_of masses_of s.solve
 solve_keeps (scalar r) vel = record { names = refl; masses = refl }
 solve_keeps (corotational r) vel = record { names = refl; masses = refl }

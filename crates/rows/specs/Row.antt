@@ -1,10 +1,10 @@
 -- A row of a frame: its colour, its flag, the ids of its four places, and the constraint. Definitions only. Assumes nothing.
-use Rattle.std.specs.Prelude.{ℕ, Bool, true, false, cond, not, List, [], ◌∷◌, eqb, ltb}
+use Rattle.std.specs.Prelude.{ℕ, Bool, true, false, cond, List, [], ◌∷◌, eqb, ltb, Some, None}
 use Rattle.std.proofs.Math.Option.{Option, none, some}
 use Rattle.vector.specs.Vector.{zero_vector}
 use Rattle.vector.specs.declared.Vec3.{Vec3}
 use Rattle.vector.specs.declared.Four.{Four}
-use Rattle.places.specs.Places.{Holds, Ids, Masses}
+use Rattle.places.specs.Places.{Held, Holds, Ids, Masses}
 use Rattle.scalar.specs.declared.SoftScalarConstraint.{SoftScalarConstraint}
 use Rattle.corotational.specs.declared.CorotationalRow.{CorotationalRow}
 use Rattle.neo_hookean.specs.declared.NeoHookeanRow.{NeoHookeanRow}
@@ -61,15 +61,12 @@ module _ {Pt : Type 0} (what : Pt → Vec3) where
   value_of (some p) = what p
 
   abbrev pub held_at : ℕ → Option Pt → Held
-  held_at id p = record { named = not (eqb id nobody); value = value_of p }
-
-  abbrev pub nothing : Held
-  nothing = record { named = not (eqb nobody nobody); value = zero_vector }
+  held_at id p = cond (eqb id nobody) None (Some (value_of p))
 
   -- the first place, and those after it
   abbrev pub first_held : List ℕ → List (Option Pt) → Held
-  first_held [] vs = nothing
-  first_held (i ∷ is) [] = nothing
+  first_held [] vs = None
+  first_held (i ∷ is) [] = None
   first_held (i ∷ is) (p ∷ ps) = held_at i p
 
   abbrev pub rest : {A : Type 0} → List A → List A

@@ -5,6 +5,7 @@ use Rattle.relisting.specs.Steps.{fetch, alters}
 use Rattle.vector.specs.declared.Vec3.{Vec3}
 use Rattle.vector.specs.declared.Four.{Four}
 use Rattle.places.specs.Places.{Holds}
+use Rattle.places.specs.declared.Solved.{Solved}
 use Rattle.scalar.specs.Row as s
 use Rattle.corotational.specs.Row as c
 use Rattle.neo_hookean.specs.Row as n
@@ -24,20 +25,15 @@ strained_of (scalar r) least = s.is_strained r least
 strained_of (corotational r) least = cell.is_strained r.pose.strain least
 strained_of (neo_hookean r) least = cell.is_strained r.pose.strain least
 
--- a constraint anew, and what each of its places is to lose
-pub record Done : Type 0 where
-  pub constraint : Constraint
-  pub loss : Four Vec3
+unfoldable pub warmstart_of : Constraint → Float → Solved Constraint
+warmstart_of (scalar r) k = record { state = scalar (s.warmstart r k).state; loss = (s.warmstart r k).loss }
+warmstart_of (corotational r) k = record { state = corotational (c.with_impulses r (c.warmstart r k).state); loss = (c.warmstart r k).loss }
+warmstart_of (neo_hookean r) k = record { state = neo_hookean (n.with_impulses r (n.warmstart r k).state); loss = (n.warmstart r k).loss }
 
-unfoldable pub warmstart_of : Constraint → Float → Done
-warmstart_of (scalar r) k = record { constraint = scalar (s.warmstart r k).row; loss = (s.warmstart r k).loss }
-warmstart_of (corotational r) k = record { constraint = corotational (c.with_impulses r (c.warmstart r k).impulses); loss = (c.warmstart r k).loss }
-warmstart_of (neo_hookean r) k = record { constraint = neo_hookean (n.with_impulses r (n.warmstart r k).impulses); loss = (n.warmstart r k).loss }
-
-unfoldable pub solve_of : Constraint → Holds → Done
-solve_of (scalar r) vel = record { constraint = scalar (s.solve r vel).row; loss = (s.solve r vel).loss }
-solve_of (corotational r) vel = record { constraint = corotational (c.with_impulses r (c.solve r vel).impulses); loss = (c.solve r vel).loss }
-solve_of (neo_hookean r) vel = record { constraint = neo_hookean (n.with_impulses r (n.solve r vel).impulses); loss = (n.solve r vel).loss }
+unfoldable pub solve_of : Constraint → Holds → Solved Constraint
+solve_of (scalar r) vel = record { state = scalar (s.solve r vel).state; loss = (s.solve r vel).loss }
+solve_of (corotational r) vel = record { state = corotational (c.with_impulses r (c.solve r vel).state); loss = (c.solve r vel).loss }
+solve_of (neo_hookean r) vel = record { state = neo_hookean (n.with_impulses r (n.solve r vel).state); loss = (n.solve r vel).loss }
 
 abbrev pub with_constraint : Row → Constraint → Row
 with_constraint r c = record { colour = r.colour; strained = r.strained; ids = r.ids; constraint = c }
@@ -62,7 +58,7 @@ module _ {Pt : Type 0} (position velocity : Pt → Vec3) (lose : Vec3 → Pt →
       (record { colour = r.colour; strained = strained_of c least; ids = r.ids; constraint = c }, [])
 
   unfoldable pub warm : Float → Row → List (Option Pt) → Row × List (ℕ × Vec3)
-  warm coeff r vs = let x = warmstart_of r.constraint coeff in (with_constraint r x.constraint, lost r x.loss)
+  warm coeff r vs = let x = warmstart_of r.constraint coeff in (with_constraint r x.state, lost r x.loss)
 
   unfoldable pub solve : Row → List (Option Pt) → Row × List (ℕ × Vec3)
-  solve r vs = let x = solve_of r.constraint (holds_of velocity (names r) vs) in (with_constraint r x.constraint, lost r x.loss)
+  solve r vs = let x = solve_of r.constraint (holds_of velocity (names r) vs) in (with_constraint r x.state, lost r x.loss)

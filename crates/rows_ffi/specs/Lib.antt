@@ -1,2 +1,3 @@
 -- What the exports on a record's bytes answer. Assumes nothing.
+pub mod Mirrors
 pub mod Record

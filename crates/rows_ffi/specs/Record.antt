@@ -1,15 +1,15 @@
 -- The phases of a row on bytes that may or may not be its record. Definitions only. Assumes nothing.
-use Rattle.std.specs.Prelude.{ℕ, ◌+◌, ◌*◌, ◌-◌, ◌/◌, ◌%◌, Bool, true, false, cond, ◌&&◌, ◌||◌, List, eqb, leb, Float, length}
+use Rattle.std.specs.Prelude.{ℕ, ◌+◌, ◌*◌, ◌-◌, ◌/◌, ◌%◌, Bool, true, false, cond, ◌&&◌, ◌||◌, List, eqb, leb, Float, length, Some, None}
 use Rattle.loops.specs.Loops.{up_to}
 use Rattle.little_endian.specs.Bytes.{le16, le32}
-use Rattle.vector.specs.Vector.{zero_vector}
+use Rattle.vector.specs.declared.Vec3.{Vec3}
 use Rattle.vector.specs.declared.Four.{Four}
-use Rattle.places.specs.declared.Holds.{Holds}
+use Rattle.places.specs.Places.{Holds}
 use Rattle.records.specs.Layout as at
 use Rattle.records.specs.Records.{record_length}
 use Rattle.row.specs.Widths.{row_length}
 use Rattle.stored.specs.Phases.{update_row, warm_row, warm_loss, solve_row, solve_loss}
-use Rattle.rows_ffi.specs.declared.Lost.{Lost}
+use Rattle.rows_ffi.specs.Mirrors.{lost_of}
 
 -- a record, whole: its length says so, it has a row's kind, and room for the fields of that kind
 unfoldable pub is_record : List ℕ → Bool
@@ -40,14 +40,12 @@ unfoldable pub solved : Holds → List ℕ → List ℕ
 solved vel s = cond (is_row s) (solve_row vel s) s
 
 -- and nothing is lost
-unfoldable pub nothing_lost : Lost
-nothing_lost = record { done = false; loss = record { a = zero_vector; b = zero_vector; c = zero_vector; d = zero_vector } }
 
-unfoldable pub lost : Bool → Four → Lost
-lost is loss = cond is (record { done = true; loss = loss }) nothing_lost
+abbrev pub lost : Bool → Four Vec3 → Bool × Four Vec3
+lost is loss = lost_of (cond is (Some loss) None)
 
-unfoldable pub warm_lost : Float → List ℕ → Lost
+unfoldable pub warm_lost : Float → List ℕ → Bool × Four Vec3
 warm_lost coeff s = lost (is_row s) (warm_loss coeff s)
 
-unfoldable pub solve_lost : Holds → List ℕ → Lost
+unfoldable pub solve_lost : Holds → List ℕ → Bool × Four Vec3
 solve_lost vel s = lost (is_row s) (solve_loss vel s)

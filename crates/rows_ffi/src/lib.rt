@@ -2,17 +2,8 @@
 // caller owes. A row's phases go on the bytes of its record, as they ship; beside them stands what they are made of.
 #![tactic(auto)]
 
+mod mirrors;
 mod of_cell;
 mod of_energy;
 mod of_gradients;
 mod of_row;
-
-use vector::Four;
-
-// What each place is to lose, where the bytes are a row's record; zeros otherwise.
-#[repr(C)]
-#[derive(Clone, Copy)]
-pub struct Lost {
-    pub done: bool,
-    pub loss: Four,
-}

@@ -1,8 +1,10 @@
 // The exports of the crate `cell`.
 ghost use Rattle.std.specs.Prelude.{◌≡◌};
 ghost use Rattle.cell.specs.Strain as strain;
+ghost use Rattle.c_types.specs.FourVectors.{as_four};
 
-use vector::{Four, Mat3};
+use c_types::FourVectors;
+use vector::Mat3;
 
 #[unsafe(no_mangle)]
 pub extern "C" fn rt_strain_rows_of(m: Mat3, out: &mut [f32; 6])
@@ -26,10 +28,10 @@ pub extern "C" fn rt_strain_matrix(e: &[f32; 6]) -> Mat3
 }
 
 #[unsafe(no_mangle)]
-pub extern "C" fn rt_outer_sum(a: Four, b: Four) -> Mat3
-    ensures { result ≡ strain.outer_sum a b }
+pub extern "C" fn rt_outer_sum(a: FourVectors, b: FourVectors) -> Mat3
+    ensures { result ≡ strain.outer_sum (as_four a) (as_four b) }
 {
-    cell::tensor::outer_sum(a, b)
+    cell::tensor::outer_sum(a.into(), b.into())
 }
 
 #[unsafe(no_mangle)]

@@ -2,14 +2,14 @@
 ghost use Rattle.std.specs.Prelude.{◌≡◌};
 ghost use Rattle.energy.specs.Hessian as hessian;
 
-use energy::Energy;
+use energy::{Energy, Lame};
 use vector::Mat3;
 
 #[unsafe(no_mangle)]
 pub extern "C" fn rt_neo_hookean_gradient(mu: f32, lambda: f32, strain: &[f32; 6]) -> Energy
     ensures { result ≡ hessian.gradient mu lambda strain.now }
 {
-    energy::hessian::gradient(mu, lambda, strain)
+    Lame { mu, lambda }.gradient(strain)
 }
 
 #[unsafe(no_mangle)]
@@ -22,5 +22,5 @@ pub extern "C" fn rt_neo_hookean_hessian(
 )
     ensures { out.new ≡ hessian.hessian mu lambda s kappa }
 {
-    *out = energy::hessian::hessian(mu, lambda, s, kappa);
+    *out = Lame { mu, lambda }.hessian(s, kappa);
 }

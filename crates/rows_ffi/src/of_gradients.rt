@@ -2,25 +2,30 @@
 ghost use Rattle.std.specs.Prelude.{◌≡◌};
 ghost use Rattle.gradients.specs.Dihedral as dihedral;
 ghost use Rattle.gradients.specs.Gradients as gradients;
+ghost use Rattle.gradients.specs.Kind.{kind_of};
+ghost use Rattle.c_types.specs.FourVectors.{as_four};
+ghost use Rattle.rows_ffi.specs.Mirrors.{as_gradients};
 
-use gradients::Gradients;
-use vector::Four;
+use crate::mirrors::Gradients;
+use c_types::FourVectors;
+use gradients::ScalarKind;
 
 #[unsafe(no_mangle)]
-pub extern "C" fn rt_dihedral_gradients(pos: Four, rest: f32) -> Gradients
-    ensures { result ≡ dihedral.dihedral_gradients pos rest }
+pub extern "C" fn rt_dihedral_gradients(pos: FourVectors, rest: f32) -> Gradients
+    ensures { as_gradients result ≡ dihedral.dihedral_gradients (as_four pos) rest }
 {
-    gradients::dihedral::dihedral_gradients(pos, rest)
+    gradients::dihedral::dihedral_gradients(pos.into(), rest).into()
 }
 
 #[unsafe(no_mangle)]
 pub extern "C" fn rt_scalar_compute_gradients(
     kind: u32,
-    pos: Four,
-    grad: Four,
+    pos: FourVectors,
+    grad: FourVectors,
     rest: f32,
 ) -> Gradients
-    ensures { result ≡ gradients.compute_gradients kind pos grad rest }
+    ensures { as_gradients result ≡ gradients.compute_gradients (kind_of kind) (as_four pos) (as_four grad) rest }
 {
-    gradients::gradient::compute_gradients(kind, pos, grad, rest)
+    let kind = ScalarKind::from(kind);
+    gradients::gradient::compute_gradients(kind, pos.into(), grad.into(), rest).into()
 }

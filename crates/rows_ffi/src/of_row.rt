@@ -1,24 +1,21 @@
 // The exports of the crate `row`: the phases of a row of any kind, on the bytes of its record as a frame has them. A caller's bytes may be
 // anything: those that are no row's record are left alone, and the answer says so.
 ghost use Rattle.std.specs.Prelude.{◌≡◌, ◌+◌, ◌*◌, ◌≤◌, length};
-ghost use Rattle.row.specs.Widths.{row_length};
+ghost use Rattle.row.specs.Widths.{width};
+ghost use Rattle.rows_ffi.specs.Mirrors.{as_holds, as_lost};
 ghost use Rattle.rows_ffi.specs.Record as spec;
 
-use crate::Lost;
-use places::Holds;
-use records::layout;
-use vector::Four;
+use crate::mirrors::{Holds, Lost};
+use records::{Kind, RowKind, layout};
 
-fn row_length(kind: u16) -> usize
-    ensures { result ≡ row_length kind }
+fn row_length(kind: RowKind) -> usize
+    ensures { result ≡ width kind }
 {
-    if kind == 3 {
-        return layout::SCALAR_END;
+    match kind {
+        RowKind::Scalar => layout::SCALAR_END,
+        RowKind::Corotational => layout::CORO_END,
+        RowKind::NeoHookean => layout::NEO_END,
     }
-    if kind == 4 {
-        return layout::CORO_END;
-    }
-    layout::NEO_END
 }
 
 // Whether the bytes are a record, whole: its length says so, it has a row's kind, and room for the fields of that kind.
@@ -28,12 +25,15 @@ fn is_record(b: &[u8]) -> bool
     if b.len() < 6 {
         return false;
     }
-    let kind = little_endian::get_u16(b, layout::KIND_AT);
     let n = 4 + (little_endian::get_u32(b, 0) as usize);
-    (n == b.len()) & ((kind == 3) | (kind == 4) | (kind == 5)) & (row_length(kind) <= n)
+    match Kind::try_from(little_endian::get_u16(b, layout::KIND_AT)) {
+        Ok(Kind::Row(kind)) => (n == b.len()) & (row_length(kind) <= n),
+        _ => false,
+    }
 }
 
 // Whether a pattern is no NaN's but the one that is written.
+#[tactic(auto, unfolding(crate::specs::Record::is_written))]
 fn is_written(n: u32) -> bool
     ensures { result ≡ spec.is_written n }
 {
@@ -46,10 +46,8 @@ fn all_written(b: &[u8], n: usize) -> bool
     ensures { result ≡ spec.all_written n b.now }
 {
     let mut all = true;
-    let mut i: usize = 0;
-    while i < n {
+    for i in 0..n {
         all = all & is_written(little_endian::get_u32(b, layout::ROW_POS + 4 * i));
-        i += 1;
     }
     all
 }
@@ -65,26 +63,12 @@ fn is_row(b: &[u8]) -> bool
     false
 }
 
-fn nothing_lost() -> Lost
-    ensures { result ≡ spec.nothing_lost }
-{
-    let z = vector::zero_vector();
-    let loss = Four {
-        a: z,
-        b: z,
-        c: z,
-        d: z,
-    };
-    Lost { done: false, loss }
-}
-
 #[unsafe(no_mangle)]
 pub extern "C" fn rt_row_update(s: &mut [u8], held: Holds, least: f32) -> bool
-    ensures { (result ≡ spec.is_row s.old) × (s.new ≡ spec.updated least held s.old) }
+    ensures { (result ≡ spec.is_row s.old) × (s.new ≡ spec.updated least (as_holds held) s.old) }
 {
     if is_row(s) {
-        let n = s.len();
-        row::update_row(s, 0, n, held, least);
+        row::update_row(s, held.into(), least);
         return true;
     }
     false
@@ -92,24 +76,20 @@ pub extern "C" fn rt_row_update(s: &mut [u8], held: Holds, least: f32) -> bool
 
 #[unsafe(no_mangle)]
 pub extern "C" fn rt_row_warm(s: &mut [u8], coeff: f32) -> Lost
-    ensures { (result ≡ spec.warm_lost coeff s.old) × (s.new ≡ spec.warmed coeff s.old) }
+    ensures { (as_lost result ≡ spec.warm_lost coeff s.old) × (s.new ≡ spec.warmed coeff s.old) }
 {
     if is_row(s) {
-        let n = s.len();
-        let loss = row::warm_row(s, 0, n, coeff);
-        return Lost { done: true, loss };
+        return Some(row::warm_row(s, coeff)).into();
     }
-    nothing_lost()
+    None.into()
 }
 
 #[unsafe(no_mangle)]
 pub extern "C" fn rt_row_solve(s: &mut [u8], vel: Holds) -> Lost
-    ensures { (result ≡ spec.solve_lost vel s.old) × (s.new ≡ spec.solved vel s.old) }
+    ensures { (as_lost result ≡ spec.solve_lost (as_holds vel) s.old) × (s.new ≡ spec.solved (as_holds vel) s.old) }
 {
     if is_row(s) {
-        let n = s.len();
-        let loss = row::solve_row(s, 0, n, vel);
-        return Lost { done: true, loss };
+        return Some(row::solve_row(s, vel.into())).into();
     }
-    nothing_lost()
+    None.into()
 }

@@ -1,5 +1,5 @@
 -- The worked examples of the distance row: mode 1, which is the update and then the solve, of a row of two particles at rest. Assumes nothing.
-use Rattle.std.specs.Prelude.{refl, true, false, List, [], ◌∷◌, Float, Option, Some, None}
+use Rattle.std.specs.Prelude.{refl, true, false, List, [], ◌∷◌, Float, Some, None}
 use Rattle.std.specs.Int.Count.{count_leading_zeros}
 use Rattle.std.specs.Float.Ieee as ieee
 use Rattle.std.specs.Float.{inf}

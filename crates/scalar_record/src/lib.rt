@@ -24,6 +24,7 @@ type Bytes<'a> = RowBytes<'a, { layout::SCALAR_END }>;
 
 // ---- read
 
+#[inline(always)]
 #[tactic(auto, unfolding(stored::specs::Read::spring_at))]
 fn spring_at(b: Bytes) -> Spring
     ensures { result ≡ spring_at b.entry.bytes.now }
@@ -37,6 +38,7 @@ fn spring_at(b: Bytes) -> Spring
     }
 }
 
+#[inline(always)]
 #[tactic(auto, unfolding(stored::specs::Read::response_at))]
 fn response_at(b: Bytes) -> Response
     ensures { result ≡ response_at b.entry.bytes.now }
@@ -50,14 +52,14 @@ fn response_at(b: Bytes) -> Response
     }
 }
 
-// What f makes of the whole row. There is an instance for each phase's f: a function with one caller is compiled into it, and the fields
-// that the phase does not use are never read. One function for all three made scalar sheets take up to twice as long.
+// The whole row. It is compiled into each phase, and the fields that the phase does not use are never read: one function for all three made
+// scalar sheets take up to twice as long.
+#[inline(always)]
 #[tactic(auto, unfolding(stored::specs::Read::scalar_of, floats::specs::Fields::four_at, floats::specs::Fields::masses_at))]
-fn with_row<R, F: FnOnce(SoftScalarConstraint) -> R>(b: Bytes, f: F) -> R
-    requires { F.pre f (scalar_of b.bytes.now) }
-    ensures { F.post f (scalar_of b.entry.bytes.now) result }
+fn row_of(b: Bytes) -> SoftScalarConstraint
+    ensures { result ≡ scalar_of b.entry.bytes.now }
 {
-    f(SoftScalarConstraint {
+    SoftScalarConstraint {
         kind: ScalarKind::from(u32::from(b.get_u16(layout::SCALAR_TYPE))),
         count: u32::from(b.get_u16(layout::SCALAR_COUNT)),
         pos: b.get(layout::ROW_POS),
@@ -65,7 +67,7 @@ fn with_row<R, F: FnOnce(SoftScalarConstraint) -> R>(b: Bytes, f: F) -> R
         grad: b.get(layout::SCALAR_GRAD),
         spring: spring_at(b),
         response: response_at(b),
-    })
+    }
 }
 
 // ---- put
@@ -96,7 +98,7 @@ fn put_scalar(b: &mut [u8], r: SoftScalarConstraint)
 pub fn begun(b: Bytes, held: Holds) -> SoftScalarConstraint
     ensures { result ≡ s.begin (scalar_of b.entry.bytes.now) held }
 {
-    with_row(b, |r| scalar::begin(r, held))
+    scalar::begin(row_of(b), held)
 }
 
 pub fn put_begun(b: &mut [u8], r: SoftScalarConstraint, least: f32)
@@ -110,13 +112,13 @@ pub fn put_begun(b: &mut [u8], r: SoftScalarConstraint, least: f32)
 pub fn warmed(b: Bytes, coeff: f32) -> Solved<SoftScalarConstraint>
     ensures { result ≡ s.warmstart (scalar_of b.entry.bytes.now) coeff }
 {
-    with_row(b, |r| scalar::warmstart(r, coeff))
+    scalar::warmstart(row_of(b), coeff)
 }
 
 pub fn solved(b: Bytes, vel: Holds) -> Solved<SoftScalarConstraint>
     ensures { result ≡ s.solve (scalar_of b.entry.bytes.now) vel }
 {
-    with_row(b, |r| scalar::solve(r, vel))
+    scalar::solve(row_of(b), vel)
 }
 
 // What a warm start and a solve assign.

@@ -4,6 +4,7 @@ ghost use Rattle.shape.specs.Cell as spec;
 
 use vector::{Four, Mat3, Vec3};
 
+#[tactic(auto, unfolding(crate::specs::Cell::cell_edge_matrix))]
 pub fn cell_edge_matrix(x: Four<Vec3>) -> Mat3
     ensures { result ≡ spec.cell_edge_matrix x }
 {
@@ -14,6 +15,7 @@ pub fn cell_edge_matrix(x: Four<Vec3>) -> Mat3
     }
 }
 
+#[tactic(auto, unfolding(crate::specs::Cell::cell_volume))]
 pub fn cell_volume(x: Four<Vec3>) -> f32
     ensures { result ≡ spec.cell_volume x }
 {
@@ -21,26 +23,21 @@ pub fn cell_volume(x: Four<Vec3>) -> f32
 }
 
 // The gradient by a particle, from the edges to the next two.
+#[tactic(auto, unfolding(crate::specs::Cell::face_gradient))]
 fn face_gradient(u: Vec3, v: Vec3) -> Vec3
     ensures { result ≡ spec.face_gradient u v }
 {
     u.cross(v) / 6.0
 }
 
+#[tactic(auto, unfolding(crate::specs::Cell::cell_edge_matrix, crate::specs::Cell::cell_volume_gradients))]
 pub fn cell_volume_gradients(x: Four<Vec3>) -> Four<Vec3>
     ensures { result ≡ spec.cell_volume_gradients x }
 {
-    let a = x.b - x.a;
-    let b = x.c - x.a;
-    let c = x.d - x.a;
-    let g1 = face_gradient(b, c);
-    let g2 = face_gradient(c, a);
-    let g3 = face_gradient(a, b);
-    let g0 = -(g1 + g2 + g3);
-    Four {
-        a: g0,
-        b: g1,
-        c: g2,
-        d: g3,
-    }
+    let edges = cell_edge_matrix(x);
+    let b = face_gradient(edges.y, edges.z);
+    let c = face_gradient(edges.z, edges.x);
+    let d = face_gradient(edges.x, edges.y);
+    let sum = b + c + d;
+    Four { a: -sum, b, c, d }
 }

@@ -5,12 +5,14 @@ ghost use Rattle.shape.specs.Rotation as spec;
 use vector::{Mat3, Quat, Vec3};
 
 // Columns crossed, and summed from zero, as the source does.
+#[tactic(auto, unfolding(crate::specs::Rotation::cross_sum))]
 fn cross_sum(r: Mat3, a: Mat3) -> Vec3
     ensures { result ≡ spec.cross_sum r a }
 {
     Vec3::zero() + r.x.cross(a.x) + r.y.cross(a.y) + r.z.cross(a.z)
 }
 
+#[tactic(auto, unfolding(crate::specs::Rotation::dot_sum))]
 fn dot_sum(r: Mat3, a: Mat3) -> f32
     ensures { result ≡ spec.dot_sum r a }
 {
@@ -18,6 +20,7 @@ fn dot_sum(r: Mat3, a: Mat3) -> f32
 }
 
 // The source's omega: an axis to turn q about, as long as the angle.
+#[tactic(auto, unfolding(crate::specs::Rotation::correction))]
 fn correction(a: Mat3, q: Quat) -> Vec3
     ensures { result ≡ spec.correction a q }
 {
@@ -27,6 +30,7 @@ fn correction(a: Mat3, q: Quat) -> Vec3
 }
 
 // The correction o, which is w long, as a quaternion; where it is small not of length 1.
+#[tactic(auto, unfolding(crate::specs::Rotation::step))]
 fn step(o: Vec3, w: f32) -> Quat
     ensures { result ≡ spec.step o w }
 {
@@ -42,6 +46,7 @@ fn step(o: Vec3, w: f32) -> Quat
 }
 
 // q after a turn by the correction o, which is w long.
+#[tactic(auto, unfolding(crate::specs::Rotation::turned))]
 fn turned(o: Vec3, w: f32, q: Quat) -> Quat
     ensures { result ≡ spec.turned o w q }
 {
@@ -52,15 +57,14 @@ pub fn extract_rotation(a: Mat3, warm: Quat) -> Quat
     ensures { result ≡ spec.extract_rotation a warm }
 {
     let mut q = warm;
-    for i in 0usize..8 {
+    for _ in 0usize..8 {
         let o = correction(a, q);
         let w = o.length();
         // 16 times f32's EPSILON
         if w < 1.9073486e-6 {
             break;
         }
-        let n = turned(o, w, q);
-        q = n;
+        q = turned(o, w, q);
     }
     q
 }

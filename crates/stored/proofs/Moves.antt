@@ -8,6 +8,7 @@ use lib.Ieee.{Float, binary32, is_nan, of_bits, to_bits}
 use Rattle.real.specs.Float.{f0, f½}
 use Rattle.real.specs.Real as r
 use Rattle.vector.specs.Vector as v
+use Rattle.places.specs.Places.{rate_of}
 use Rattle.scalar.specs.Row as s
 use Rattle.rows.specs.Row as row
 use Rattle.rows.specs.Step as step
@@ -62,7 +63,7 @@ abbrev f¾ : Float
 f¾ = of_bits binary32 0x3f400000
 
 pub speeds : (speed (pulled 0 1) ≡ f½) × ((speed (pulled 1 1) ≡ f¾) × (speed (pulled 1 0) ≡ f½))
-unfolding end_of le16 le32 is_nan run_of lay swept records flatten step.solve step.solve_of s.solve s.total_of s.sought_of s.rate_of s.losses row.key_of row.names_of row.holds_of row_of constraint_of scalar_of spring_at response_at four_at vec3_at masses_at ids_at put_vec3 solve_constraint put_solve position velocity lose v.zero_vector v.sub v.scale v.dot r.clamp to_bits of_bits ieee.of_fields ieee.lt ieee.le ieee.eq ieee.add ieee.sub ieee.neg ieee.mul ieee.sum ieee.round ieee.units ieee.odd ieee.span ieee.climb ieee.size
+unfolding end_of le16 le32 is_nan run_of lay swept records flatten step.solve step.solve_of s.solve s.total_of s.sought_of rate_of s.losses row.key_of row.names_of row.holds_of row_of constraint_of scalar_of spring_at response_at four_at vec3_at masses_at ids_at put_vec3 solve_constraint put_solve position velocity lose v.zero_vector v.sub v.scale v.dot r.clamp to_bits of_bits ieee.of_fields ieee.lt ieee.le ieee.eq ieee.add ieee.sub ieee.neg ieee.mul ieee.sum ieee.round ieee.units ieee.odd ieee.span ieee.climb ieee.size
 speeds = (refl, (refl, refl))
 
 -- of an accepted frame the run is left

@@ -51,7 +51,7 @@ update_names least held b =
 
 pub warm_names : (coeff : Float) (b : List ℕ) → names_at (warm_row coeff b) ≡ names_at b
 unfolding warm_row
-warm_names coeff b = names_kept (warm_row coeff b) b (warm_kept (step.warmstart_of (constraint_of b) coeff).constraint b)
+warm_names coeff b = names_kept (warm_row coeff b) b (warm_kept (step.warmstart_of (constraint_of b) coeff).state b)
 
 pub strained_is : (b : List ℕ) → (row_of b).strained ≡ is_strained_at b
 unfolding row_of is_strained_at

@@ -29,13 +29,13 @@ unfoldable pub update_row : Float → Holds → List ℕ → List ℕ
 update_row least held b = let k = update_of (constraint_of b) held in put_flag (put_constraint k b) at.row_strained (strained_of k least)
 
 unfoldable pub warm_row : Float → List ℕ → List ℕ
-warm_row coeff b = warm_constraint (warmstart_of (constraint_of b) coeff).constraint b
+warm_row coeff b = warm_constraint (warmstart_of (constraint_of b) coeff).state b
 
 unfoldable pub warm_loss : Float → List ℕ → Four Vec3
 warm_loss coeff b = (warmstart_of (constraint_of b) coeff).loss
 
 unfoldable pub solve_row : Holds → List ℕ → List ℕ
-solve_row vel b = solve_constraint (solve_of (constraint_of b) vel).constraint b
+solve_row vel b = solve_constraint (solve_of (constraint_of b) vel).state b
 
 unfoldable pub solve_loss : Holds → List ℕ → Four Vec3
 solve_loss vel b = (solve_of (constraint_of b) vel).loss

@@ -114,7 +114,7 @@ corotational_of b =
     }
 
 unfoldable pub material_of : List ℕ → Material
-material_of b = record { dt = f32_at b at.neo_dt; mu = f32_at b at.neo_mu; lambda = f32_at b at.neo_lambda; damping = floats_at 6 b at.neo_damping }
+material_of b = record { dt = f32_at b at.neo_dt; lame = record { mu = f32_at b at.neo_mu; lambda = f32_at b at.neo_lambda }; damping = floats_at 6 b at.neo_damping }
 
 unfoldable pub stiffness_of : List ℕ → Stiffness
 stiffness_of b = record { stiffness_strain = floats_at 6 b at.neo_stiffness_strain; m = floats_at 36 b at.neo_m; dt_grad = floats_at 6 b at.neo_dt_grad }

@@ -232,7 +232,7 @@ pub record Steady (f : List ℕ → Points → List ℕ × Points) : Type 0 wher
 pub nothing_steady : Steady nothing
 nothing_steady = record { row = λ b ps. alike_refl b; points = λ b ps. same_refl ps }
 
-then_steady : (f g : List ℕ → Points → List ℕ × Points) → Steady f → Steady g → Steady (f then g)
+pub then_steady : (f g : List ℕ → Points → List ℕ × Points) → Steady f → Steady g → Steady (f then g)
 then_steady f g F G = record {
   row = λ b ps. alike_trans (G.row (f b ps).0 (f b ps).1) (F.row b ps);
   points = λ b ps. same_trans _ (f b ps).1 ps (G.points (f b ps).0 (f b ps).1) (F.points b ps);

@@ -5,15 +5,14 @@ use mathlib.Core.List.{List}
 use native.Mathlib.Omega.{arith}
 use native.Mathlib.Nat.{add-zero, add-sub_cancel_left}
 use lib.Ieee.{Float}
+use Rattle.vector.specs.declared.Vec3.{Vec3}
 use lib.ListN.{length, take, drop}
 use Rattle.little_endian.specs.Bytes.{le16, le32, part}
 use Rattle.little_endian.proofs.Parts.{le32_part, le16_part, length_part}
 use Rattle.records.specs.Records.{record_length, record_at}
 use Rattle.vector.specs.declared.Four.{Four}
-use Rattle.places.specs.declared.Ids.{Ids}
-use Rattle.places.specs.declared.Holds.{Holds}
+use Rattle.places.specs.Places.{Holds, Ids}
 use Rattle.row.specs.Widths.{row_length}
-use Rattle.row.specs.InFrame.{Stands, on_record}
 use Rattle.stored.specs.Phases.{names_at, update_row, warm_row, warm_loss, solve_row, solve_loss}
 use Rattle.stored.specs.Points.{Points, position, update, warm, solve}
 use Rattle.floats.specs.Written.{AllWritten}
@@ -22,6 +21,7 @@ use Rattle.points.specs.Apart.{moved, Fit, holds_of, lost}
 use Rattle.points.proofs.Moved.{length_moved, moved_part, moved_on_part, positions_moved, holds_apart, lost_apart}
 use Rattle.sweep.specs.Laid.{Standing, Stepped, Ready}
 use Rattle.sweep.specs.declared.Turn.{Turn}
+use Rattle.sweep.proofs.InFrame.{Stands, on_record}
 use Rattle.sweep.proofs.Rooms.{Room, room, size_here, length-here, record_here}
 use Rattle.sweep.proofs.Steps.{updated, warmed, solved, stands, NamesStay}
 use Rattle.sweep.proofs.Sweeps.{Going, going_behind, going_room, going_long, going_scalar}
@@ -36,7 +36,7 @@ row_found off s h e =
 
 -- ---- what stands behind the points
 
-module _ (n : ℕ) (v : List Float) (s : List ℕ) (off : ℕ) (h : 26 + 30 * n ≤ off) (k : off ≤ length s) where
+module _ (n : ℕ) (v : List Vec3) (s : List ℕ) (off : ℕ) (h : 26 + 30 * n ≤ off) (k : off ≤ length s) where
   pub le32_moved : le32 (moved n v s) off ≡ le32 s off
   le32_moved =
       ap (le32 (moved n v s)) (sym (add-zero off)) ∙ sym (le32_part (moved n v s) off 4 0 (omega arith)) ∙ ap (λ (l : List ℕ). le32 l 0) (moved_part n v s off h k 4)
@@ -51,7 +51,7 @@ module _ (n : ℕ) (v : List Float) (s : List ℕ) (off : ℕ) (h : 26 + 30 * n 
   pub le16_moved : (m : ℕ) → m + 2 ≤ 182 → le16 (moved n v s) (off + m) ≡ le16 s (off + m)
   le16_moved m l = sym (le16_part (moved n v s) off 182 m l) ∙ ap (λ (q : List ℕ). le16 q m) (moved_part n v s off h k 182) ∙ le16_part s off 182 m l
 
-module _ {n off len : ℕ} (v : List Float) (s : List ℕ) (y : Standing n off len (moved n v s)) where
+module _ {n off len : ℕ} (v : List Vec3) (s : List ℕ) (y : Standing n off len (moved n v s)) where
   pub behind : 26 + 30 * n ≤ off
   behind = omega (arith, y.at.place)
 
@@ -82,7 +82,7 @@ module _ {n off len : ℕ} (v : List Float) (s : List ℕ) (y : Standing n off l
   stands_apart e d = record {
     end = d ∙ ap (off +◌) (sym said_apart);
     inside = omega (arith, d, room_apart.end);
-    wide = subst (λ (l : ℕ). row_length (le16 (record_at s off) 4) ≤ l) (length_part s off (record_length s off) room_apart.said) room_apart.wide;
+    wide = room_apart.wide;
     written = subst AllWritten (sym (record_here y.at) ∙ sym record_apart) y.at.row.written;
   }
 
@@ -100,9 +100,9 @@ module _ {n off len : ℕ} (v : List Float) (s : List ℕ) (y : Standing n off l
         updated n off len (moved n v s) least (record_at s off) i held (moved n v s') record_apart names (g ∙ sym (positions_moved n v s room_apart.points i))
         (ap (moved n v) (h ∙ part_of (update_row least held)) ∙ moved_on_part n v s off behind inside len (update_row least held)) u
 
-    module _ (q : Fit v) (s₁ : List ℕ) (p : 26 + 30 * n ≤ length s₁) (x : Four) (v' : List Float) (t : v' ≡ lost n v i x) where
+    module _ (q : Fit v) (s₁ : List ℕ) (p : 26 + 30 * n ≤ length s₁) (x : Four Vec3) (v' : List Vec3) (t : v' ≡ lost n v i x) where
       lost_here : moved n v' s₁ ≡ taken n (moved n v s₁) i x
-      lost_here = ap (λ (u : List Float). moved n u s₁) t ∙ lost_apart n v i x q s₁ p room_apart.few
+      lost_here = ap (λ (u : List Vec3). moved n u s₁) t ∙ lost_apart n v i x q s₁ p room_apart.few
 
       pub warmed_apart : (coeff : Float) → s₁ ≡ on_record off (warm_row coeff) s → x ≡ warm_loss coeff (record_at s off)
           → AllWritten (warm_row coeff (record_at s off)) → Stepped (warm n coeff) n off len (moved n v s) (moved n v' s₁)
@@ -120,8 +120,8 @@ module _ {n off len : ℕ} (v : List Float) (s : List ℕ) (y : Standing n off l
           (h ∙ ap (solve_loss vel) (record_of ∙ sym (moved_part n v s off behind inside len))) lost_here u
 
 -- the names after a step that leaves them
-pub names_after : {n off len : ℕ} (v : List Float) (s : List ℕ) → Standing n off len (moved n v s) → (i : Ids) → i ≡ names_at (record_at s off)
-    → (f : List ℕ → Points → List ℕ × Points) → NamesStay f → (v' : List Float) (s' : List ℕ) → Stepped f n off len (moved n v s) (moved n v' s')
+pub names_after : {n off len : ℕ} (v : List Vec3) (s : List ℕ) → Standing n off len (moved n v s) → (i : Ids) → i ≡ names_at (record_at s off)
+    → (f : List ℕ → Points → List ℕ × Points) → NamesStay f → (v' : List Vec3) (s' : List ℕ) → Stepped f n off len (moved n v s) (moved n v' s')
     → i ≡ names_at (record_at s' off)
 names_after {n} {off} {len} v s y i names f stay v' s' z =
     let y' : Standing n off len (moved n v' s') = stands n off len f (moved n v s) (moved n v' s') y z in
@@ -132,7 +132,7 @@ names_after {n} {off} {len} v s y i names f stay v' s' z =
 
 -- ---- a turn of the loop over rows
 
-module _ (t : Turn) (n r : ℕ) (M₀ : List ℕ) (i : ℕ) (v : List Float) (s : List ℕ) (off : ℕ) (g : Going t n r M₀ i (moved n v s) off) (y : Ready n r M₀) (l : i < r) where
+module _ (t : Turn) (n r : ℕ) (M₀ : List ℕ) (i : ℕ) (v : List Vec3) (s : List ℕ) (off : ℕ) (g : Going t n r M₀ i (moved n v s) off) (y : Ready n r M₀) (l : i < r) where
   front_of : 26 + 30 * n ≤ off
   front_of = going_behind t n r M₀ i (moved n v s) off g y
 

@@ -1,31 +1,24 @@
 -- What the code of one row's step leaves is the step of the rules. Assumes nothing.
-use Prim.Native.Nat.{ℕ}
-use mathlib.Core.Path.{◌≡◌, refl, sym, ap, ◌∙◌, subst}
-use mathlib.Core.Bool.{Bool, true, false, cond, not, ◌&&◌}
-use mathlib.Core.List.{List, ◌++◌}
-use lib.Ieee.{Float}
+use Rattle.std.proofs.Common.{ℕ, ◌≡◌, refl, sym, ap, ◌∙◌, subst, Bool, true, false, List, ◌++◌, Float, Option, Some, None}
 use Rattle.little_endian.specs.Bytes.{part}
 use Rattle.records.specs.Records.{record_at, flatten}
 use Rattle.relisting.specs.Steps.{fetch, alters, ◌then◌, pick, choose, nothing}
 use Rattle.vector.specs.declared.Vec3.{Vec3}
 use Rattle.vector.specs.declared.Four.{Four}
-use Rattle.places.specs.declared.Ids.{Ids}
-use Rattle.places.specs.declared.Holds.{Holds}
+use Rattle.places.specs.Places.{Holds, Ids}
 use Rattle.rows.specs.Row.{places, holds_of, losses_of, four}
 use Rattle.stored.specs.Read.{row_of}
 use Rattle.stored.specs.Phases.{names_at, is_strained_at, update_row, warm_row, warm_loss, solve_row, solve_loss}
-use Rattle.stored.specs.Points.{Points, position, velocity, lose, only, update, warm, solve}
+use Rattle.stored.specs.Points.{Points, position, velocity, lose, update, warm, solve, resweep_step}
 use Rattle.stored.specs.Sizes.{update_steady, warm_steady, solve_steady, lose_alike}
 use Rattle.stored.specs.PhaseLaws.{names_on, names_are, update_names, warm_names, strained_is, positions_on, velocities_on, update_is, update_leaves, warm_is, warm_loses, solve_is, solve_loses}
 use Rattle.floats.specs.Written.{AllWritten}
 use Rattle.points.specs.InFrame.{on_part, holds_in, taken}
 use Rattle.points.proofs.Bridge.{holds_bridge, taken_bridge}
-use Rattle.sweep.specs.Laid.{At, Standing, Stepped, phases, step_of}
+use Rattle.sweep.specs.Laid.{At, Standing, Stepped, if_some, begin_of}
 use Rattle.sweep.specs.declared.Turn.{Turn}
+use Rattle.sweep.specs.declared.Turn.TheVariants.{Main, Resweep}
 use Rattle.sweep.proofs.Rooms.{record_here, row_here, anew, still}
-
-not_both : false ≡ true → ⊥
-not_both e = subst (λ (t : Bool). cond t ⊥ Unit) e tt
 
 module _ {n off len : ℕ} {H : List ℕ} {ps : Points} {D b X s : List ℕ} (w : At n off len H ps D b X s) where
   -- what the places that the row names hold
@@ -36,7 +29,7 @@ module _ {n off len : ℕ} {H : List ℕ} {ps : Points} {D b X s : List ℕ} (w 
       ∙ ap (λ (l : List ℕ). holds_of what l (fetch l ps)) (ap places e ∙ sym (names_are b))
 
   -- and what they lose, once the row is b'
-  lost_here : (i : Ids) (x : Four) (b' : List ℕ) → i ≡ names_at b
+  lost_here : (i : Ids) (x : Four Vec3) (b' : List ℕ) → i ≡ names_at b
       → taken n (H ++ (flatten ps ++ (D ++ (b' ++ X)))) i x ≡ H ++ (flatten (alters lose (losses_of n (names_on b) (four x)) ps) ++ (D ++ (b' ++ X)))
   lost_here i x b' e =
       taken_bridge H w.head n (λ y p. (lose_alike y p).size) ps (D ++ (b' ++ X)) i x w.many w.sized
@@ -53,7 +46,7 @@ updated n off len s least r i held s' e f g h y H ps D b X w =
     (h ∙ anew w (update_row least held)
     ∙ (λ j. H ++ (flatten (sym (update_leaves n b ps least) j) ++ (D ++ ((ap (λ (y : Holds). update_row least y b) q ∙ sym (update_is n b ps least)) j ++ X)))))
 
-pub warmed : (n off len : ℕ) (s : List ℕ) (coeff : Float) (r : List ℕ) (i : Ids) (x : Four) (s₁ s' : List ℕ)
+pub warmed : (n off len : ℕ) (s : List ℕ) (coeff : Float) (r : List ℕ) (i : Ids) (x : Four Vec3) (s₁ s' : List ℕ)
     → r ≡ record_at s off → i ≡ names_at r → s₁ ≡ on_part off len (warm_row coeff) s → x ≡ warm_loss coeff (part off len s) → s' ≡ taken n s₁ i x
     → AllWritten (warm_row coeff r) → Stepped (warm n coeff) n off len s s'
 warmed n off len s coeff r i x s₁ s' e f g h t u H ps D b X w =
@@ -63,9 +56,9 @@ warmed n off len s coeff r i x s₁ s' e f g h t u H ps D b X w =
     (subst AllWritten (ap (warm_row coeff) (e ∙ record_here w) ∙ sym (warm_is n b ps coeff)) u) ((warm_steady n coeff).points b ps)
     (t ∙ ap (λ (l : List ℕ). taken n l i x) (g ∙ anew w (warm_row coeff))
     ∙ lost_here w i x (warm_row coeff b) k
-    ∙ (λ j. H ++ (flatten ((ap (λ (z : Four). alters lose (losses_of n (names_on b) (four z)) ps) y ∙ sym (warm_loses n b ps coeff)) j) ++ (D ++ (sym (warm_is n b ps coeff) j ++ X)))))
+    ∙ (λ j. H ++ (flatten ((ap (λ (z : Four Vec3). alters lose (losses_of n (names_on b) (four z)) ps) y ∙ sym (warm_loses n b ps coeff)) j) ++ (D ++ (sym (warm_is n b ps coeff) j ++ X)))))
 
-pub solved : (n off len : ℕ) (s : List ℕ) (r : List ℕ) (i : Ids) (vel : Holds) (x : Four) (s₁ s' : List ℕ)
+pub solved : (n off len : ℕ) (s : List ℕ) (r : List ℕ) (i : Ids) (vel : Holds) (x : Four Vec3) (s₁ s' : List ℕ)
     → r ≡ record_at s off → i ≡ names_at r → vel ≡ holds_in velocity n s i → s₁ ≡ on_part off len (solve_row vel) s → x ≡ solve_loss vel (part off len s) → s' ≡ taken n s₁ i x
     → AllWritten (solve_row vel r) → Stepped (solve n) n off len s s'
 solved n off len s r i vel x s₁ s' e f v g h t u H ps D b X w =
@@ -76,17 +69,14 @@ solved n off len s r i vel x s₁ s' e f v g h t u H ps D b X w =
     (subst AllWritten ((λ j. solve_row (q j) ((e ∙ record_here w) j)) ∙ sym (solve_is n b ps)) u) ((solve_steady n).points b ps)
     (t ∙ ap (λ (l : List ℕ). taken n l i x) (g ∙ anew w (solve_row vel))
     ∙ lost_here w i x (solve_row vel b) k
-    ∙ (λ j. H ++ (flatten ((ap (λ (z : Four). alters lose (losses_of n (names_on b) (four z)) ps) y ∙ sym (solve_loses n b ps)) j)
+    ∙ (λ j. H ++ (flatten ((ap (λ (z : Four Vec3). alters lose (losses_of n (names_on b) (four z)) ps) y ∙ sym (solve_loses n b ps)) j)
     ++ (D ++ ((ap (λ (z : Holds). solve_row z b) q ∙ sym (solve_is n b ps)) j ++ X)))))
 
 -- ---- steps from steps
 
 module _ (n off len : ℕ) where
-  pub on : (t : Bool) (f : List ℕ → Points → List ℕ × Points) (s s' : List ℕ) → t ≡ true → Stepped f n off len s s' → Stepped (only t f) n off len s s'
-  on t f s s' e = subst (λ (u : Bool). Stepped f n off len s s' → Stepped (only u f) n off len s s') (sym e) (λ z. z)
-
-  pub not_on : (t : Bool) (f : List ℕ → Points → List ℕ × Points) (s : List ℕ) → t ≡ false → Stepped (only t f) n off len s s
-  not_on t f s e = subst (λ (u : Bool). Stepped (only u f) n off len s s) (sym e) (λ H ps D b X w. w)
+  pub not_on : (s : List ℕ) → Stepped nothing n off len s s
+  not_on s H ps D b X w = w
 
   -- a row stands there still
   pub stands : (f : List ℕ → Points → List ℕ × Points) (s s' : List ℕ) → Standing n off len s → Stepped f n off len s s' → Standing n off len s'
@@ -103,41 +93,32 @@ module _ (n off len : ℕ) where
   pub after : (f g : List ℕ → Points → List ℕ × Points) (s s₁ s' : List ℕ) → Stepped f n off len s s₁ → Stepped g n off len s₁ s' → Stepped (f then g) n off len s s'
   after f g s s₁ s' y z H ps D b X w = z H (f b ps).1 D (f b ps).0 X (y H ps D b X w)
 
-  -- a resweep passes over a row that is not strained
-  pub passed : (t : Turn) (x : Bool) (s : List ℕ) → x ≡ is_strained_at (record_at s off) → (t.resweep && not x) ≡ true → Stepped (step_of n t) n off len s s
-  passed t x s e h H ps D b X w = go t.resweep x h (e ∙ ap is_strained_at (record_here w) ∙ sym (strained_is b))
-    where
-      go : (u x : Bool) → (u && not x) ≡ true → x ≡ (row_of b).strained
-          → At n off len H (cond u (choose (λ c. (row_of c).strained) (phases n t) nothing) (phases n t) b ps).1 D
-          (cond u (choose (λ c. (row_of c).strained) (phases n t) nothing) (phases n t) b ps).0 X s
-      go true false h e = subst (λ (y : Bool). At n off len H (pick y (phases n t) nothing b ps).1 D (pick y (phases n t) nothing b ps).0 X s) e w
-      go true true h e = absurd (not_both h)
-      go false x h e = absurd (not_both h)
+  -- a resweep passes over a row that is not strained, and solves one that is
+  module _ (x : Bool) (s : List ℕ) (e : x ≡ is_strained_at (record_at s off)) where
+    strained : {H : List ℕ} {ps : Points} {D b X : List ℕ} → At n off len H ps D b X s → x ≡ (row_of b).strained
+    strained {b = b} w = e ∙ ap is_strained_at (record_here w) ∙ sym (strained_is b)
 
-  -- any other row goes through the phases
-  pub gone : (t : Turn) (x : Bool) (s s' : List ℕ) → x ≡ is_strained_at (record_at s off) → (t.resweep && not x) ≡ false → Stepped (phases n t) n off len s s'
-      → Stepped (step_of n t) n off len s s'
-  gone t x s s' e h z H ps D b X w = go t.resweep x h (e ∙ ap is_strained_at (record_here w) ∙ sym (strained_is b)) (z H ps D b X w)
-    where
-      go : (u x : Bool) → (u && not x) ≡ false → x ≡ (row_of b).strained
-          → At n off len H (phases n t b ps).1 D (phases n t b ps).0 X s'
-          → At n off len H (cond u (choose (λ c. (row_of c).strained) (phases n t) nothing) (phases n t) b ps).1 D
-          (cond u (choose (λ c. (row_of c).strained) (phases n t) nothing) (phases n t) b ps).0 X s'
-      go true true h e w = subst (λ (y : Bool). At n off len H (pick y (phases n t) nothing b ps).1 D (pick y (phases n t) nothing b ps).0 X s') e w
-      go true false h e w = absurd (not_both (sym h))
-      go false x h e w = w
+    pub passed : x ≡ false → Stepped (resweep_step n) n off len s s
+    passed h H ps D b X w = subst (λ (y : Bool). At n off len H (pick y (solve n) nothing b ps).1 D (pick y (solve n) nothing b ps).0 X s) (sym h ∙ strained w) w
+
+    pub gone : (s' : List ℕ) → x ≡ true → Stepped (solve n) n off len s s' → Stepped (resweep_step n) n off len s s'
+    gone s' h z H ps D b X w = subst (λ (y : Bool). At n off len H (pick y (solve n) nothing b ps).1 D (pick y (solve n) nothing b ps).0 X s') (sym h ∙ strained w) (z H ps D b X w)
 
 -- ---- an update and a warm start leave the names
 
 abbrev pub NamesStay : (List ℕ → Points → List ℕ × Points) → Type 0
 NamesStay f = (b : List ℕ) (ps : Points) → names_at (f b ps).0 ≡ names_at b
 
-only_names : (t : Bool) (f : List ℕ → Points → List ℕ × Points) → NamesStay f → NamesStay (only t f)
-only_names true f h = h
-only_names false f h = λ b ps. refl
+pub if_names : (f : Float → List ℕ → Points → List ℕ × Points) → ((x : Float) → NamesStay (f x)) → (o : Option Float) → NamesStay (if_some f o)
+if_names f h (Some x) = h x
+if_names f h None = λ b ps. refl
 
-pub update_stay : (n : ℕ) (t : Bool) (least : Float) → NamesStay (only t (update n least))
-update_stay n t least = only_names t (update n least) (λ b ps. ap names_at (update_is n b ps least) ∙ update_names least (positions_on b ps) b)
+pub update_stay : (n : ℕ) (o : Option Float) → NamesStay (if_some (update n) o)
+update_stay n = if_names (update n) (λ least b ps. ap names_at (update_is n b ps least) ∙ update_names least (positions_on b ps) b)
 
-pub warm_stay : (n : ℕ) (t : Bool) (coeff : Float) → NamesStay (only t (warm n coeff))
-warm_stay n t coeff = only_names t (warm n coeff) (λ b ps. ap names_at (warm_is n b ps coeff) ∙ warm_names coeff b)
+pub warm_stay : (n : ℕ) (o : Option Float) → NamesStay (if_some (warm n) o)
+warm_stay n = if_names (warm n) (λ coeff b ps. ap names_at (warm_is n b ps coeff) ∙ warm_names coeff b)
+
+pub begin_stay : (n : ℕ) (t : Turn) → NamesStay (begin_of n t)
+begin_stay n (Main p) b ps = let x = if_some (update n) p.update b ps in warm_stay n p.warm x.0 x.1 ∙ update_stay n p.update b ps
+begin_stay n Resweep b ps = refl

@@ -1,20 +1,20 @@
 -- Laws of the loop over rows: a frame that is laid out stays so, and its rows and points are those of the rules. Assumes nothing.
 use Prim.Native.Nat.{ℕ, ◌+◌, ◌*◌, ◌≤◌, ◌<◌}
 use mathlib.Core.Path.{◌≡◌, refl, sym, ap, ◌∙◌, subst}
-use mathlib.Core.Bool.{Bool, true, false, cond}
+use Rattle.std.proofs.Common.{Float, Option, Some, None}
 use mathlib.Core.List.{List, [], ◌∷◌, ◌++◌, append_assoc, append-nil}
 use native.Mathlib.Omega.{arith}
 use lib.ListN.{length, length-append}
 use Rattle.little_endian.specs.Bytes.{le16}
 use Rattle.records.specs.Records.{record_length, flatten}
-use Rattle.relisting.specs.Steps.{choose, nothing, sweep}
-use Rattle.stored.specs.Read.{row_of}
-use Rattle.stored.specs.Points.{Points}
+use Rattle.relisting.specs.Steps.{sweep}
+use Rattle.stored.specs.Points.{Points, update, warm}
 use Rattle.stored.specs.Run.{lay}
-use Rattle.stored.specs.Sizes.{Steady, main_steady, choose_steady, nothing_steady, sweep_rows, sweep_points, same_length}
+use Rattle.stored.specs.Sizes.{Steady, then_steady, update_steady, warm_steady, solve_steady, resweep_steady, nothing_steady, sweep_rows, sweep_points, same_length}
 use Rattle.points.specs.InFrame.{Sized}
-use Rattle.sweep.specs.Laid.{RowSized, RowsSized, At, Standing, Stepped, phases, step_of, Laid, Ready, Swept}
+use Rattle.sweep.specs.Laid.{RowSized, RowsSized, At, Standing, Stepped, if_some, step_of, Laid, Ready, Swept}
 use Rattle.sweep.specs.declared.Turn.{Turn}
+use Rattle.sweep.specs.declared.Turn.TheVariants.{Main, Resweep}
 use Rattle.sweep.proofs.Rooms.{long_here, length-here, size_here, scalar_here}
 
 -- ---- lists of rows
@@ -192,15 +192,14 @@ module _ (t : Turn) (n r : ℕ) (s₀ : List ℕ) where
 
 -- ---- a frame that is ready stays so
 
-pub step_steady : (n : ℕ) (t : Turn) → Steady (step_of n t)
-step_steady n t = go t.resweep
-  where
-    phases_steady : Steady (phases n t)
-    phases_steady = main_steady n t.update t.warm t.coeff t.least
+if_steady : (f : Float → List ℕ → Points → List ℕ × Points) → ((x : Float) → Steady (f x)) → (o : Option Float) → Steady (if_some f o)
+if_steady f h (Some x) = h x
+if_steady f h None = nothing_steady
 
-    go : (u : Bool) → Steady (cond u (choose (λ b. (row_of b).strained) (phases n t) nothing) (phases n t))
-    go true = choose_steady (λ b. (row_of b).strained) (phases n t) nothing phases_steady nothing_steady
-    go false = phases_steady
+pub step_steady : (n : ℕ) (t : Turn) → Steady (step_of n t)
+step_steady n (Main p) =
+    then_steady _ _ (then_steady _ _ (if_steady (update n) (update_steady n) p.update) (if_steady (warm n) (warm_steady n) p.warm)) (solve_steady n)
+step_steady n Resweep = resweep_steady n
 
 pub rows_many : (f : List ℕ → Points → List ℕ × Points) → Steady f → (bs : List (List ℕ)) (ps : Points) → length (sweep f bs ps).0 ≡ length bs
 rows_many f z bs ps = same_length _ _ (sweep_rows f z bs ps)

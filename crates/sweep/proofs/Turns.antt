@@ -1,31 +1,21 @@
 -- Laws of the loop over resweeps, and of a main sweep and the resweeps behind it. Assumes nothing.
 use Prim.Native.Nat.{ℕ, ◌+◌, ◌*◌, ◌-◌, ◌≤◌, ◌<◌}
 use mathlib.Core.Path.{◌≡◌, sym, ap, ◌∙◌, subst}
-use mathlib.Core.Bool.{cond}
 use mathlib.Core.List.{List, ◌++◌}
 use native.Mathlib.Omega.{arith}
 use native.Mathlib.Nat.{sub-zero}
 use lib.ListN.{length, replicate, length-append}
 use Rattle.records.proofs.Rest.{sub_turn}
 use Rattle.records.specs.Records.{flatten}
-use Rattle.relisting.specs.Steps.{choose, nothing, sweep, sweeps}
+use Rattle.relisting.specs.Steps.{sweep, sweeps}
 use Rattle.stored.specs.Run.{lay}
 use Rattle.points.proofs.Bridge.{length-points}
-use Rattle.stored.specs.Read.{row_of}
-use Rattle.stored.specs.Points.{Points, resweep_step, main_step}
+use Rattle.stored.specs.Points.{Points, resweep_step}
 use Rattle.stored.specs.Sizes.{resweep_steady}
-use Rattle.sweep.specs.Laid.{phases, step_of, Resweep, Laid, Ready, Swept, Reswept, Ran}
-use Rattle.sweep.specs.declared.Turn.{Turn}
+use Rattle.sweep.specs.Laid.{phases, Laid, Ready, Swept, Reswept, Ran}
+use Rattle.sweep.specs.declared.Phases.{Phases}
+use Rattle.sweep.specs.declared.Turn.TheVariants.{Main, Resweep}
 use Rattle.sweep.proofs.Sweeps.{rows_many, points_many, step_steady}
-
--- a sweep of a turn that is a resweep
-pub reswept_one : (t : Turn) (n r : ℕ) (s s' : List ℕ) → Resweep t → Swept t n r s s'
-    → (h : List ℕ) (x : List (List ℕ) × Points) → Laid s h x → length x.1 ≡ n → length x.0 ≡ r → Laid s' h (sweep (resweep_step n) x.0 x.1)
-reswept_one t n r s s' e w h x l p q =
-    subst (λ (f : List ℕ → Points → List ℕ × Points). Laid s' h (sweep f x.0 x.1)) as_rules (w h x l p q)
-  where
-    as_rules : step_of n t ≡ resweep_step n
-    as_rules = λ i. cond (e.on i) (choose (λ b. (row_of b).strained) (main_step n (e.no_update i) (e.no_warm i) t.coeff t.least) nothing) (phases n t)
 
 pub record Resweeping (k n r : ℕ) (h : List ℕ) (x : List (List ℕ) × Points) (i : ℕ) (s : List ℕ) : Type 0 where
   pub now_x : List (List ℕ) × Points
@@ -53,12 +43,12 @@ module _ (k n r : ℕ) (s₀ : List ℕ) where
         let b = a y.h y.x y.laid y.size y.count in
         record { h = y.h; x = b.now_x; laid = b.laid; size = b.size; count = b.count; few = y.few; few_r = y.few_r }
 
-    pub again_again : (t : Turn) (s' : List ℕ) → i < k → Resweep t → Swept t n r s s' → Again k n r s₀ (i + 1) s'
-    again_again t s' less e w h x l p q =
+    pub again_again : (s' : List ℕ) → i < k → Swept Resweep n r s s' → Again k n r s₀ (i + 1) s'
+    again_again s' less w h x l p q =
         let b = a h x l p q in
         record {
           now_x = sweep (resweep_step n) b.now_x.0 b.now_x.1;
-          laid = reswept_one t n r s s' e w h b.now_x b.laid b.size b.count;
+          laid = w h b.now_x b.laid b.size b.count;
           size = points_many (resweep_step n) (resweep_steady n) b.now_x.0 b.now_x.1 ∙ b.size;
           count = rows_many (resweep_step n) (resweep_steady n) b.now_x.0 b.now_x.1 ∙ b.count;
           total = ap (λ (j : ℕ). sweeps (replicate j (resweep_step n)) b.now_x) (sym (sub_turn k i less)) ∙ b.total;
@@ -70,14 +60,14 @@ module _ (k n r : ℕ) (s₀ : List ℕ) where
         let z : k - i ≡ 0 = omega arith in
         subst (Laid s h) (ap (λ (j : ℕ). sweeps (replicate j (resweep_step n)) b.now_x) (sym z) ∙ b.total) b.laid
 
-pub both_sweeps : (t : Turn) (k n r : ℕ) (s s' s'' : List ℕ) → Swept t n r s s' → Reswept k n r s' s'' → Ran t k n r s s''
+pub both_sweeps : (t : Phases) (k n r : ℕ) (s s' s'' : List ℕ) → Swept (Main t) n r s s' → Reswept k n r s' s'' → Ran t k n r s s''
 both_sweeps t k n r s s' s'' w v h x l p q =
-    v h (sweep (step_of n t) x.0 x.1) (w h x l p q)
-    (points_many (step_of n t) (step_steady n t) x.0 x.1 ∙ p)
-    (rows_many (step_of n t) (step_steady n t) x.0 x.1 ∙ q)
+    v h (sweep (phases n t) x.0 x.1) (w h x l p q)
+    (points_many (phases n t) (step_steady n (Main t)) x.0 x.1 ∙ p)
+    (rows_many (phases n t) (step_steady n (Main t)) x.0 x.1 ∙ q)
 
 -- from the frame as it was, and to the one that is put together again
-pub all_swept : (t : Turn) (k n r : ℕ) (s₀ M₀ M₁ M₂ s₃ : List ℕ) → M₀ ≡ s₀ → Swept t n r M₀ M₁ → Reswept k n r M₁ M₂ → s₃ ≡ M₂ → Ran t k n r s₀ s₃
+pub all_swept : (t : Phases) (k n r : ℕ) (s₀ M₀ M₁ M₂ s₃ : List ℕ) → M₀ ≡ s₀ → Swept (Main t) n r M₀ M₁ → Reswept k n r M₁ M₂ → s₃ ≡ M₂ → Ran t k n r s₀ s₃
 all_swept t k n r s₀ M₀ M₁ M₂ s₃ e w v f =
     subst (λ (a : List ℕ). Ran t k n r a s₃) e (subst (λ (b : List ℕ). Ran t k n r M₀ b) (sym f) (both_sweeps t k n r M₀ M₁ M₂ w v))
 

@@ -1,17 +1,18 @@
 -- What the inner functions of a run cite: bytes that are laid out from a head, points and rows, and what a step or a sweep makes of them. A reader of the rules does not need it: the exported contract is stated with stored/specs/Run.antt. Definitions only. Assumes nothing.
-use Rattle.std.specs.Prelude.{ℕ, ◌+◌, ◌*◌, ◌≤◌, ◌<◌, ◌≡◌, true, false, cond, List, [], ◌∷◌, ◌++◌, length, replicate}
+use Rattle.std.specs.Prelude.{ℕ, ◌+◌, ◌*◌, ◌≤◌, ◌<◌, ◌≡◌, List, [], ◌∷◌, ◌++◌, length, replicate, Float, Option, Some, None}
 use Rattle.little_endian.specs.Bytes.{le16}
 use Rattle.records.specs.Records.{record_length, flatten}
-use Rattle.relisting.specs.Steps.{choose, nothing, sweep, sweeps, run}
-use Rattle.stored.specs.Read.{row_of}
-use Rattle.stored.specs.Points.{Points, main_step, resweep_step}
+use Rattle.relisting.specs.Steps.{◌then◌, nothing, sweep, sweeps, run}
+use Rattle.stored.specs.Points.{Points, update, warm, solve, resweep_step}
 use Rattle.stored.specs.Run.{lay}
 use Rattle.floats.specs.Written.{AllWritten}
 use Rattle.floats.proofs.Same.{Finite3}
 use Rattle.points.specs.InFrame.{Sized}
 use Rattle.points.specs.Apart.{velocity_at}
 use Rattle.row.specs.Widths.{row_length}
+use Rattle.sweep.specs.declared.Phases.{Phases}
 use Rattle.sweep.specs.declared.Turn.{Turn}
+use Rattle.sweep.specs.declared.Turn.TheVariants.{Main, Resweep}
 
 -- a row's record is as long as it says, and has room for the fields of its kind; a scalar row's has no more. Its floats are as put_f32
 -- writes them
@@ -53,19 +54,24 @@ Stepped f n off len s s' = (H : List ℕ) (ps : Points) (D b X : List ℕ) → A
 
 -- ---- a sweep, and all of them
 
+-- a phase that has its number where it is on
+abbrev pub if_some : (Float → List ℕ → Points → List ℕ × Points) → Option Float → List ℕ → Points → List ℕ × Points
+if_some f (Some x) = f x
+if_some f None = nothing
+
 -- the phases that are on, and the solve
-abbrev pub phases : ℕ → Turn → List ℕ → Points → List ℕ × Points
-phases n t = main_step n t.update t.warm t.coeff t.least
+abbrev pub phases : ℕ → Phases → List ℕ → Points → List ℕ × Points
+phases n p = if_some (update n) p.update then if_some (warm n) p.warm then solve n
+
+-- what goes before the solve
+abbrev pub begin_of : ℕ → Turn → List ℕ → Points → List ℕ × Points
+begin_of n (Main p) = if_some (update n) p.update then if_some (warm n) p.warm
+begin_of n Resweep = nothing
 
 -- what a sweep does with a row
 abbrev pub step_of : ℕ → Turn → List ℕ → Points → List ℕ × Points
-step_of n t = cond t.resweep (choose (λ b. (row_of b).strained) (phases n t) nothing) (phases n t)
-
--- the turn of a resweep
-pub record Resweep (t : Turn) : Type 0 where
-  pub on : t.resweep ≡ true
-  pub no_update : t.update ≡ false
-  pub no_warm : t.warm ≡ false
+step_of n (Main p) = phases n p
+step_of n Resweep = resweep_step n
 
 -- the frame s is a head h, and the rows and points x
 pub record Laid (s h : List ℕ) (x : List (List ℕ) × Points) : Type 0 where
@@ -93,8 +99,8 @@ Swept t n r = Made (λ x. sweep (step_of n t) x.0 x.1) n r
 abbrev pub Reswept : ℕ → ℕ → ℕ → List ℕ → List ℕ → Type 0
 Reswept k n r = Made (sweeps (replicate k (resweep_step n))) n r
 
-abbrev pub Ran : Turn → ℕ → ℕ → ℕ → List ℕ → List ℕ → Type 0
-Ran t k n r = Made (λ x. run (step_of n t) (resweep_step n) k x.0 x.1) n r
+abbrev pub Ran : Phases → ℕ → ℕ → ℕ → List ℕ → List ℕ → Type 0
+Ran p k n r = Made (λ x. run (phases n p) (resweep_step n) k x.0 x.1) n r
 
 -- the velocities of the n points are finite, as a run finds them
 abbrev pub Calm : ℕ → List ℕ → Type 0

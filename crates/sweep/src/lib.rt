@@ -1,111 +1,107 @@
 // One row's step in a frame, and the sweeps: the rows in listed order, with the place of the next one carried along.
 #![tactic(auto)]
 
-ghost use Rattle.std.specs.Prelude.{◌≡◌, Bool, true, false, ℕ, ◌+◌, ◌≤◌, length};
+ghost use Rattle.std.specs.Prelude.{◌≡◌, ℕ, ◌+◌, ◌≤◌, length};
 ghost use Rattle.little_endian.specs.Bytes.{le16};
 ghost use Rattle.records.specs.Records.{record_length, record_at};
-ghost use Rattle.stored.specs.Phases.{names_at};
 ghost use Rattle.stored.specs.Points as spec;
-ghost use Rattle.points.specs.Apart.{moved, Fit};
-ghost use Rattle.sweep.specs.Laid.{Calm, Standing, Stepped, step_of, Resweep, Ready, Swept, Reswept, Ran};
+ghost use Rattle.sweep.specs.Laid.{Calm, Standing, Stepped, if_some, begin_of, step_of, Ready, Swept, Reswept, Ran};
+ghost use Rattle.sweep.specs.Joined.{joined, Stood};
 
 use places::Ids;
-use records::layout;
+use points::velocities::Velocities;
+use records::{RowKind, layout};
 
-// What a sweep does with each row: an update and a warm start where they are on, and the solve. A resweep passes over the rows that are not
-// strained, and has neither on.
+// The phases of a main sweep beside its solve, where they are on: an update with the least strain of the head, a warm start with its
+// coefficient.
 #[derive(Clone, Copy)]
-pub struct Turn {
-    pub resweep: bool,
-    pub update: bool,
-    pub warm: bool,
-    // the warm coefficient and the least strain of the head
-    pub coeff: f32,
-    pub least: f32,
+pub struct Phases {
+    pub update: Option<f32>,
+    pub warm: Option<f32>,
 }
 
-// ---- one row: fetch, compute, alter. It stands at off and has len bytes, among n points, and i are the ids that it names
-
-fn update_at(least: f32, i: Ids, n: usize, off: usize, len: usize, s: &mut [u8], v: &[f32; 12288])
-    requires { (Standing n off len (moved n v.now s.old) × Fit v.now) × (i ≡ names_at (record_at s.old off)) }
-    ensures { Stepped (spec.update n least) n off len (moved n v.now s.old) (moved n v.now s.new) }
-{
-    let held = points::positions(n, s, i);
-    let e = off + len;
-    row::update_row(s, off, e, held, least);
+// What a sweep does with each row. A resweep solves the rows that are strained, and passes over the others.
+#[derive(Clone, Copy)]
+enum Turn {
+    Main(Phases),
+    Resweep,
 }
 
-fn warm_at(coeff: f32, i: Ids, n: usize, off: usize, len: usize, s: &mut [u8], v: &mut [f32; 12288])
-    requires { (Standing n off len (moved n v.old s.old) × Fit v.old) × (i ≡ names_at (record_at s.old off)) }
-    ensures { Stepped (spec.warm n coeff) n off len (moved n v.old s.old) (moved n v.new s.new) × Fit v.new }
-{
-    let e = off + len;
-    let loss = row::warm_row(s, off, e, coeff);
-    points::take(n, v, i, loss);
-}
-
-fn solve_at(i: Ids, n: usize, off: usize, len: usize, s: &mut [u8], v: &mut [f32; 12288])
-    requires { (Standing n off len (moved n v.old s.old) × Fit v.old) × (i ≡ names_at (record_at s.old off)) }
-    ensures { Stepped (spec.solve n) n off len (moved n v.old s.old) (moved n v.new s.new) × Fit v.new }
-{
-    let vel = points::velocities(n, v, i);
-    let e = off + len;
-    let loss = row::solve_row(s, off, e, vel);
-    points::take(n, v, i, loss);
-}
-
-fn update_if(
-    on: bool,
-    least: f32,
-    i: Ids,
-    n: usize,
+// A row in its frame: it stands at off and has len bytes, and names are the ids that it names.
+#[derive(Clone, Copy)]
+struct Row {
     off: usize,
     len: usize,
-    s: &mut [u8],
-    v: &[f32; 12288],
-)
-    requires { (Standing n off len (moved n v.now s.old) × Fit v.now) × (i ≡ names_at (record_at s.old off)) }
-    ensures { Stepped (spec.only on (spec.update n least)) n off len (moved n v.now s.old) (moved n v.now s.new) }
-{
-    if on {
-        update_at(least, i, n, off, len, s, v);
+    names: Ids,
+}
+
+// ---- one row: fetch, compute, alter
+
+impl Row {
+    fn update(self, least: Option<f32>, s: &mut [u8], v: &Velocities)
+        requires { Stood self v.now s.old }
+        ensures { Stepped (if_some (spec.update v.now.count) least) v.now.count self.off self.len (joined v.now s.old) (joined v.now s.new) }
+    {
+        if let Some(least) = least {
+            let held = points::positions(v.count, s, self.names);
+            let end = self.off + self.len;
+            row::update_row(&mut s[self.off..end], held, least);
+        }
     }
-}
 
-fn warm_if(
-    on: bool,
-    coeff: f32,
-    i: Ids,
-    n: usize,
-    off: usize,
-    len: usize,
-    s: &mut [u8],
-    v: &mut [f32; 12288],
-)
-    requires { (Standing n off len (moved n v.old s.old) × Fit v.old) × (i ≡ names_at (record_at s.old off)) }
-    ensures { Stepped (spec.only on (spec.warm n coeff)) n off len (moved n v.old s.old) (moved n v.new s.new) × Fit v.new }
-{
-    if on {
-        warm_at(coeff, i, n, off, len, s, v);
+    fn warm(self, coeff: Option<f32>, s: &mut [u8], v: &mut Velocities)
+        requires { Stood self v.old s.old }
+        ensures counted { v.new.count ≡ v.old.count }
+        ensures stepped { Stepped (if_some (spec.warm v.old.count) coeff) v.old.count self.off self.len (joined v.old s.old) (joined v.new s.new) }
+    {
+        if let Some(coeff) = coeff {
+            let end = self.off + self.len;
+            let loss = row::warm_row(&mut s[self.off..end], coeff);
+            v.take(self.names, loss);
+        }
+    }
+
+    fn solve(self, s: &mut [u8], v: &mut Velocities)
+        requires { Stood self v.old s.old }
+        ensures counted { v.new.count ≡ v.old.count }
+        ensures stepped { Stepped (spec.solve v.old.count) v.old.count self.off self.len (joined v.old s.old) (joined v.new s.new) }
+    {
+        let vel = v.of(self.names);
+        let end = self.off + self.len;
+        let loss = row::solve_row(&mut s[self.off..end], vel);
+        v.take(self.names, loss);
+    }
+
+    // What goes before the solve.
+    fn begin(self, t: Turn, s: &mut [u8], v: &mut Velocities)
+        requires { Stood self v.old s.old }
+        ensures counted { v.new.count ≡ v.old.count }
+        ensures stepped { Stepped (begin_of v.old.count t) v.old.count self.off self.len (joined v.old s.old) (joined v.new s.new) }
+    {
+        if let Turn::Main(p) = t {
+            self.update(p.update, s, v);
+            self.warm(p.warm, s, v);
+        }
     }
 }
 
 // The row's names are read once, and what the phases put leaves them. The main sweep does as `solve_color_constraint` does it.
-fn step(t: Turn, n: usize, off: usize, len: usize, s: &mut [u8], v: &mut [f32; 12288])
-    requires { Standing n off len (moved n v.old s.old) × Fit v.old }
-    ensures { Stepped (step_of n t) n off len (moved n v.old s.old) (moved n v.new s.new) × Fit v.new }
+fn step(t: Turn, off: usize, len: usize, s: &mut [u8], v: &mut Velocities)
+    requires { Standing v.old.count off len (joined v.old s.old) }
+    ensures counted { v.new.count ≡ v.old.count }
+    ensures stepped { Stepped (step_of v.old.count t) v.old.count off len (joined v.old s.old) (joined v.new s.new) }
 {
     let b = records::record_at(s, off);
-    if t.resweep & !row::is_strained(b) {
+    if let Turn::Resweep = t && !row::is_strained(b) {
         return;
     }
-    let i = row::names_at(b);
-    update_if(t.update, t.least, i, n, off, len, s, v);
-    warm_if(t.warm, t.coeff, i, n, off, len, s, v);
-    solve_at(i, n, off, len, s, v);
+    let names = row::names_at(b);
+    let row = Row { off, len, names };
+    row.begin(t, s, v);
+    row.solve(s, v);
 }
 
-// ---- the sweeps: n points, r rows
+// ---- the sweeps: r rows
 
 // The bytes of the row at off, as a part of the frame. A scalar row's length is known by its kind, through a branch: so the place of the
 // next row does not wait until the length is read.
@@ -120,43 +116,36 @@ fn row_at(s: &[u8], off: usize) -> &[u8]
     records::record_at(s, off)
 }
 
-fn sweep(t: Turn, n: usize, r: usize, s: &mut [u8], v: &mut [f32; 12288])
-    requires { Ready n r (moved n v.old s.old) × Fit v.old }
-    ensures { Swept t n r (moved n v.old s.old) (moved n v.new s.new) × Fit v.new }
+fn sweep(t: Turn, r: usize, s: &mut [u8], v: &mut Velocities)
+    requires { Ready v.old.count r (joined v.old s.old) }
+    ensures counted { v.new.count ≡ v.old.count }
+    ensures swept { Swept t v.old.count r (joined v.old s.old) (joined v.new s.new) }
 {
-    let mut off = layout::HEAD_END + layout::POINT_END * n;
-    let mut i: usize = 0;
-    while i < r {
+    let mut off = layout::HEAD_END + layout::POINT_END * v.count;
+    for _row in 0..r {
         let len = row_at(s, off).len();
-        step(t, n, off, len, s, v);
-        off = off + len;
-        i = i + 1;
+        step(t, off, len, s, v);
+        off += len;
     }
 }
 
-fn resweeps(t: Turn, k: u16, n: usize, r: usize, s: &mut [u8], v: &mut [f32; 12288])
-    requires { (Ready n r (moved n v.old s.old) × Fit v.old) × Resweep t }
-    ensures { Reswept k n r (moved n v.old s.old) (moved n v.new s.new) × Fit v.new }
+fn resweeps(k: u16, r: usize, s: &mut [u8], v: &mut Velocities)
+    requires { Ready v.old.count r (joined v.old s.old) }
+    ensures counted { v.new.count ≡ v.old.count }
+    ensures swept { Reswept k v.old.count r (joined v.old s.old) (joined v.new s.new) }
 {
-    let mut i: u16 = 0;
-    while i < k {
-        sweep(t, n, r, s, v);
-        i = i + 1;
+    for _turn in 0..k {
+        sweep(Turn::Resweep, r, s, v);
     }
 }
 
-// The main sweep, and then k resweeps.
-pub fn sweep_all(t: Turn, k: u16, n: usize, r: usize, s: &mut [u8])
-    requires { Ready n r s.old × (Calm n s.old × (t.resweep ≡ false)) }
-    ensures { Ran t k n r s.old s.new }
+// The main sweep, and then k resweeps, of n points and r rows.
+pub fn sweep_all(p: Phases, k: u16, n: usize, r: usize, s: &mut [u8])
+    requires { Ready n r s.old × Calm n s.old }
+    ensures { Ran p k n r s.old s.new }
 {
-    let mut v = [0.0f32; 12288];
-    points::gather(n, s, &mut v);
-    sweep(t, n, r, s, &mut v);
-    let mut u = t;
-    u.resweep = true;
-    u.update = false;
-    u.warm = false;
-    resweeps(u, k, n, r, s, &mut v);
-    points::scatter(n, s, &v);
+    let mut v = Velocities::gather(n, s);
+    sweep(Turn::Main(p), r, s, &mut v);
+    resweeps(k, r, s, &mut v);
+    v.scatter(s);
 }

@@ -1,9 +1,13 @@
 -- `clash::mark_row` meets its contract. Assumes nothing.
-use Rattle.clash.proofs.Rows.{row_marked, row_kept}
+use native.Mathlib.Omega.{arith}
+use Rattle.clash.proofs.Rows.{none_yet, one_more, all_marked}
 use Rattle.clash.proofs.mark_row.Goals as goal
 
-pub returns-then-q-ne65535 : goal.returns-then-q-ne65535
-returns-then-q-ne65535 c = search row_marked
+pub loop-id-init : goal.loop-id-init
+loop-id-init c = none_yet _ _ _
 
-pub returns-else-q-ne65535 : goal.returns-else-q-ne65535
-returns-else-q-ne65535 c = row_kept _ _ _ c.if-q-ne65535.false
+pub loop-id-preserved : goal.loop-id-preserved
+loop-id-preserved c = one_more c.loop-id.invariant (omega arith) c.mark_one.ensures
+
+pub returns-after-loop-id : goal.returns-after-loop-id
+returns-after-loop-id c = all_marked _ c.if-q-ne-OVERFLOW.true c.loop-id.invariant (omega arith)

@@ -1,33 +1,28 @@
 -- `frame::records_test` meets its contract. Assumes nothing.
 use native.Mathlib.Omega.{arith}
-use Rattle.frame.proofs.Scans.{begins, whole, long, colour_found, refuses, again, ends}
+use borrow.Author.Rules.{rules}
+use Rattle.frame.proofs.Scans.{begins, whole, long, colour_found, refuses, again, all_passed, ends}
 use Rattle.frame.proofs.records_test.Goals as goal
 
-pub loop-i-init : goal.loop-i-init
-loop-i-init c = begins _ _ _ _ (omega arith)
+pub loop-init : goal.loop-init
+loop-init c = begins _ _ _ _ (omega arith)
 
-pub returns-then-a-ne0 : goal.returns-then-a-ne0
-returns-then-a-ne0 c = refuses c.loop-i.invariant (omega arith) c.record_test-a.ensures c.if-a-ne0.true
+pub returns-in_err-record_test-clause-refusal : goal.returns-in_err-record_test-clause-refusal
+returns-in_err-record_test-clause-refusal c = let e = refuses c.loop.invariant c.loop-test.true c.record_test.ensures _ c.in_err-record_test.was in search rules
 
 pub record_at-b-requires : goal.record_at-b-requires
-record_at-b-requires c = whole _ _ _ _ c.record_test-a.ensures c.if-a-ne0.false
+record_at-b-requires c = whole _ _ _ _ c.record_test.ensures c.in_ok-record_test.was
 
 pub get_u16-colour-requires : goal.get_u16-colour-requires
-get_u16-colour-requires c = omega (arith, c.record_at-b.ensures.1, long _ _ _ _ c.record_test-a.ensures c.if-a-ne0.false)
+get_u16-colour-requires c = omega (arith, c.record_at-b.ensures.1, long _ _ _ _ c.record_test.ensures c.in_ok-record_test.was)
 
-pub overflow_add-off : goal.overflow_add-off
-overflow_add-off c = omega (arith, whole _ _ _ _ c.record_test-a.ensures c.if-a-ne0.false, c.record_at-b.ensures.1)
+pub loop-preserved : goal.loop-preserved
+loop-preserved c =
+    again c.loop.invariant c.loop-test.true c.record_test.ensures _ _ _ c.in_ok-record_test.was (omega (arith, c.record_at-b.ensures.1))
+    (colour_found _ _ _ _ c.record_test.ensures c.in_ok-record_test.was c.get_u16-colour.ensures c.record_at-b.ensures.0)
 
-pub overflow_add-i : goal.overflow_add-i
-overflow_add-i c = omega arith
+pub returns-clause-refusal : goal.returns-clause-refusal
+returns-clause-refusal c = all_passed c.loop.invariant c.loop-test.false
 
-pub loop-i-smaller : goal.loop-i-smaller
-loop-i-smaller c = omega arith
-
-pub loop-i-preserved : goal.loop-i-preserved
-loop-i-preserved c =
-    again c.loop-i.invariant (omega arith) c.record_test-a.ensures _ _ c.if-a-ne0.false (omega (arith, c.record_at-b.ensures.1))
-    (colour_found _ _ _ _ c.record_test-a.ensures c.if-a-ne0.false c.get_u16-colour.ensures c.record_at-b.ensures.0)
-
-pub returns : goal.returns
-returns c = ends c.loop-i.invariant (omega arith) c.refuse_if.ensures
+pub returns-clause-end : goal.returns-clause-end
+returns-clause-end c = (ends c.loop.invariant c.loop-test.false, c.loop.invariant.inside)

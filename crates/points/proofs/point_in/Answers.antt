@@ -1,8 +1,10 @@
 -- `points::point_in` meets its contract. Assumes nothing.
-use native.Mathlib.Omega.{arith}
+use Rattle.std.proofs.Common.{ap, ◌∙◌, ℕ, ◌+◌, ◌-◌, take, drop, length-drop, length-take, arith}
 use native.Mathlib.Nat.{add-sub_cancel_left}
-use lib.ListN.{length-take, length-drop}
 use Rattle.points.proofs.point_in.Goals as goal
 
 pub returns : goal.returns
-returns c = (simp add-sub_cancel_left, simp (length-take, length-drop) (omega arith))
+returns c = (
+  ap (λ (k : ℕ). take (k + 30 - k) (drop k c.args.s.now)) c.place_of-off.ensures ∙ simp add-sub_cancel_left,
+  simp (length-take, length-drop) (omega arith),
+)

@@ -1,19 +1,29 @@
--- `row::names_at` meets its contract. Assumes nothing.
-use native.Mathlib.Omega.{arith}
-use Rattle.row.proofs.ByKind.{long_row, names_3, names_4}
+-- `row::names_at` meets its contract, by the kind. Assumes nothing.
+use Rattle.std.proofs.Common.{◌≡◌, ◌∙◌, ◌⊎◌, inl, inr, ℕ, List, arith}
+use Rattle.little_endian.specs.Bytes.{le16}
+use Rattle.records.specs.Kinds.{row_kind}
+use Rattle.records.specs.declared.kinds.RowKind.{RowKind}
+use Rattle.records.specs.declared.kinds.RowKind.TheVariants.{Scalar, Corotational, NeoHookean}
+use Rattle.floats.specs.Fields.{ids_at}
+use Rattle.stored.specs.Phases.{counted_ids, names_at}
+use Rattle.row.proofs.ByKind.{long_row, names_of_kind}
 use Rattle.row.proofs.names_at.Goals as goal
 
 pub ids_at-i-requires : goal.ids_at-i-requires
 ids_at-i-requires c = omega (arith, long_row _ _ c.requires)
 
+pub of-requires : goal.of-requires
+of-requires c = omega (arith, long_row _ _ c.requires)
+
 pub get_u16-requires : goal.get_u16-requires
 get_u16-requires c = omega (arith, long_row _ _ c.requires)
 
-pub get_u16-requires-then-get_u16-eq3 : goal.get_u16-requires-then-get_u16-eq3
-get_u16-requires-then-get_u16-eq3 c = omega (arith, long_row _ _ c.requires)
+pub returns-in-Scalar : goal.returns-in-Scalar
+returns-in-Scalar c = c.counted_ids.ensures ∙ (λ j. counted_ids (c.get_u16.ensures j) (c.ids_at-i.ensures j)) ∙ names_of_kind _ c.of.ensures Scalar c.in-Scalar.is
 
-pub returns-then-get_u16-eq3 : goal.returns-then-get_u16-eq3
-returns-then-get_u16-eq3 c = names_3 _ _ c.get_u16.ensures _ c.ids_at-i.ensures c.if-get_u16-eq3.true _ _ c.get_u16-then-get_u16-eq3.ensures c.counted_ids.ensures
+other : (b : List ℕ) {kind : RowKind} → kind ≡ row_kind (le16 b 4) → (kind ≡ Corotational) ⊎ (kind ≡ NeoHookean) → ids_at b 14 ≡ names_at b
+other b e (inl h) = names_of_kind b e Corotational h
+other b e (inr h) = names_of_kind b e NeoHookean h
 
-pub returns : goal.returns
-returns c = names_4 _ _ c.get_u16.ensures _ c.ids_at-i.ensures c.if-get_u16-eq3.false
+pub returns-in-Corotational : goal.returns-in-Corotational
+returns-in-Corotational c = c.ids_at-i.ensures ∙ other _ c.of.ensures c.in-Corotational.is

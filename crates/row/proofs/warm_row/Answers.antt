@@ -1,37 +1,35 @@
--- `row::warm_row` meets its contract. What is read of the record and what is put into it are the phase of its kind. Assumes nothing.
-use native.Mathlib.Omega.{arith}
-use mathlib.Core.Path.{◌∙◌, ap}
-use Rattle.row.proofs.ByKind.{long_row, room_4, room_5, warm_3, warm_4, warm_5}
-use Rattle.stored.specs.Phases.{warm_row, warm_loss}
-use Rattle.row.proofs.InFrame.{wide_of, written_of, lent_is, lent_wide, put_back, written_back}
+-- `row::warm_row` meets its contract: what is read of the record and what is put into it are the phase of its kind. Assumes nothing.
+use Rattle.std.proofs.Common.{arith}
+use Rattle.records.specs.declared.kinds.RowKind.TheVariants.{Scalar, Corotational, NeoHookean}
+use Rattle.row.proofs.ByKind.{long_row, room, warm_scalar, warm_corotational, warm_neo}
 use Rattle.row.proofs.warm_row.Goals as goal
 
-pub get_u16-kind-requires : goal.get_u16-kind-requires
-get_u16-kind-requires c = omega (arith, long_row _ _ (wide_of c.requires c.record_at-b.ensures))
+pub of-requires : goal.of-requires
+of-requires c = omega (arith, long_row _ _ c.requires.wide)
 
-pub warmed-d-requires : goal.warmed-d-requires
-warmed-d-requires c = (long_row _ _ (wide_of c.requires c.record_at-b.ensures), written_of c.requires c.record_at-b.ensures)
+pub invariant_of-warmed : goal.invariant_of-warmed
+invariant_of-warmed c = record { long = room _ c.requires c.of.ensures Scalar c.in-Scalar.is; written = c.requires.written }
 
-pub put_impulse-requires : goal.put_impulse-requires
-put_impulse-requires c = lent_wide c.requires c.record_at-b.ensures (long_row _ _ (wide_of c.requires c.record_at-b.ensures))
+pub returns-in-Scalar-clause-anew : goal.returns-in-Scalar-clause-anew
+returns-in-Scalar-clause-anew c = (warm_scalar _ c.of.ensures _ c.in-Scalar.is c.warmed-d.ensures c.put_impulse.ensures.0).0
 
-pub returns-then-kind-eq3 : goal.returns-then-kind-eq3
-returns-then-kind-eq3 c = let w = warm_3 (lent_is c.requires c.record_at-b.ensures) c.get_u16-kind.ensures _ c.if-kind-eq3.true c.warmed-d.ensures c.put_impulse.ensures.0 in ((put_back c.requires c.record_at-b.ensures (warm_row _) w.0, written_back c.requires c.record_at-b.ensures (warm_row _) w.0 c.put_impulse.ensures.1), w.1 ∙ ap (warm_loss _) c.record_at-b.ensures.0)
+pub returns-in-Scalar-clause-loss : goal.returns-in-Scalar-clause-loss
+returns-in-Scalar-clause-loss c = (warm_scalar _ c.of.ensures _ c.in-Scalar.is c.warmed-d.ensures c.put_impulse.ensures.0).1
 
-pub warmed-d-requires-then-kind-eq4 : goal.warmed-d-requires-then-kind-eq4
-warmed-d-requires-then-kind-eq4 c = (room_4 _ _ _ c.get_u16-kind.ensures c.if-kind-eq3.false c.if-kind-eq4.true (wide_of c.requires c.record_at-b.ensures), written_of c.requires c.record_at-b.ensures)
+pub invariant_of-warmed-in-Corotational : goal.invariant_of-warmed-in-Corotational
+invariant_of-warmed-in-Corotational c = record { long = room _ c.requires c.of.ensures Corotational c.in-Corotational.is; written = c.requires.written }
 
-pub put_impulses-requires : goal.put_impulses-requires
-put_impulses-requires c = omega (arith, lent_wide c.requires c.record_at-b.ensures (room_4 _ _ _ c.get_u16-kind.ensures c.if-kind-eq3.false c.if-kind-eq4.true (wide_of c.requires c.record_at-b.ensures)))
+pub returns-in-Corotational-clause-anew : goal.returns-in-Corotational-clause-anew
+returns-in-Corotational-clause-anew c = (warm_corotational _ c.of.ensures _ c.in-Corotational.is c.warmed-d-in-Corotational.ensures c.put_impulses.ensures.0).0
 
-pub returns-then-kind-eq4 : goal.returns-then-kind-eq4
-returns-then-kind-eq4 c = let w = warm_4 (lent_is c.requires c.record_at-b.ensures) c.get_u16-kind.ensures _ c.if-kind-eq3.false c.if-kind-eq4.true c.warmed-d-then-kind-eq4.ensures c.put_impulses.ensures.0 in ((put_back c.requires c.record_at-b.ensures (warm_row _) w.0, written_back c.requires c.record_at-b.ensures (warm_row _) w.0 c.put_impulses.ensures.1), w.1 ∙ ap (warm_loss _) c.record_at-b.ensures.0)
+pub returns-in-Corotational-clause-loss : goal.returns-in-Corotational-clause-loss
+returns-in-Corotational-clause-loss c = (warm_corotational _ c.of.ensures _ c.in-Corotational.is c.warmed-d-in-Corotational.ensures c.put_impulses.ensures.0).1
 
-pub warmed-d-requires-2 : goal.warmed-d-requires-2
-warmed-d-requires-2 c = (room_5 _ _ _ c.get_u16-kind.ensures c.if-kind-eq3.false c.if-kind-eq4.false (wide_of c.requires c.record_at-b.ensures), written_of c.requires c.record_at-b.ensures)
+pub invariant_of-warmed-in-NeoHookean : goal.invariant_of-warmed-in-NeoHookean
+invariant_of-warmed-in-NeoHookean c = record { long = room _ c.requires c.of.ensures NeoHookean c.in-NeoHookean.is; written = c.requires.written }
 
-pub put_impulses-requires-2 : goal.put_impulses-requires-2
-put_impulses-requires-2 c = omega (arith, lent_wide c.requires c.record_at-b.ensures (room_5 _ _ _ c.get_u16-kind.ensures c.if-kind-eq3.false c.if-kind-eq4.false (wide_of c.requires c.record_at-b.ensures)))
+pub returns-in-NeoHookean-clause-anew : goal.returns-in-NeoHookean-clause-anew
+returns-in-NeoHookean-clause-anew c = (warm_neo _ c.of.ensures _ c.in-NeoHookean.is c.warmed-d-in-NeoHookean.ensures c.put_impulses-in-NeoHookean.ensures.0).0
 
-pub returns : goal.returns
-returns c = let w = warm_5 (lent_is c.requires c.record_at-b.ensures) c.get_u16-kind.ensures _ c.if-kind-eq3.false c.if-kind-eq4.false c.warmed-d-2.ensures c.put_impulses-2.ensures.0 in ((put_back c.requires c.record_at-b.ensures (warm_row _) w.0, written_back c.requires c.record_at-b.ensures (warm_row _) w.0 c.put_impulses-2.ensures.1), w.1 ∙ ap (warm_loss _) c.record_at-b.ensures.0)
+pub returns-in-NeoHookean-clause-loss : goal.returns-in-NeoHookean-clause-loss
+returns-in-NeoHookean-clause-loss c = (warm_neo _ c.of.ensures _ c.in-NeoHookean.is c.warmed-d-in-NeoHookean.ensures c.put_impulses-in-NeoHookean.ensures.0).1

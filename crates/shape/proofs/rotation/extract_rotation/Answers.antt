@@ -1,9 +1,8 @@
 -- `shape::rotation::extract_rotation` meets its contract. Before turn i what is still to come of q is the definition's answer. Assumes nothing.
 -- the code's test is the definition's
-use borrow.Author.Rules.{rules}
-use mathlib.Core.Path.{◌≡◌}
-use mathlib.Core.Bool.{Bool}
-use lib.Ieee.{Float, lt}
+use Rattle.std.specs.Prelude.{◌≡◌, Bool, Float}
+use Rattle.std.specs.Float.Ieee.{lt}
+use Rattle.std.proofs.Common.{rules}
 use Rattle.vector.specs.declared.Vec3.{Vec3}
 use Rattle.vector.specs.declared.Mat3.{Mat3}
 use Rattle.vector.specs.declared.Quat.{Quat}
@@ -16,19 +15,19 @@ tested : {o : Vec3} {w : Float} {b : Bool} (a : Mat3) (q : Quat) → o ≡ corre
 unfolding settled
 tested a q eo ew h = rw (← eo, ← ew) h
 
-pub loop-i-init : goal.loop-i-init
-loop-i-init c = coming_none
+pub loop-init : goal.loop-init
+loop-init c = coming_none
 
-pub loop-i-preserved : goal.loop-i-preserved
+pub loop-preserved : goal.loop-preserved
 unfolding next
-loop-i-preserved c =
-    coming_more c.loop-i.invariant (search rules) (tested c.args.a c.loop-i.q c.correction-o.ensures c.length-w.ensures c.if-w.false) (cc)
+loop-preserved c =
+    coming_more c.loop.invariant (search rules) (tested c.args.a c.loop.q c.correction-o.ensures c.length-w.ensures c.if-w.false) (cc)
 
-pub returns-after-loop-i : goal.returns-after-loop-i
+pub returns-after-loop : goal.returns-after-loop
 unfolding extract_rotation
-returns-after-loop-i c = coming_end c.loop-i.invariant (search rules)
+returns-after-loop c = coming_end c.loop.invariant (search rules)
 
 pub returns-then-w : goal.returns-then-w
 unfolding extract_rotation
 returns-then-w c =
-    coming_stop c.loop-i.invariant (search rules) (tested c.args.a c.loop-i.q c.correction-o.ensures c.length-w.ensures c.if-w.true)
+    coming_stop c.loop.invariant (search rules) (tested c.args.a c.loop.q c.correction-o.ensures c.length-w.ensures c.if-w.true)
