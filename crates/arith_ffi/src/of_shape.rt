@@ -4,9 +4,11 @@ ghost use Rattle.linalg.specs.Eigen as eigen;
 ghost use Rattle.linalg.specs.Products as products;
 ghost use Rattle.shape.specs.Rotation as rotation;
 ghost use Rattle.shape.specs.Cell as cell;
+ghost use Rattle.c_types.specs.FourVectors.{as_four};
 
+use c_types::FourVectors;
 use linalg::Eigen;
-use vector::{Four, Mat3, Quat, Vec3};
+use vector::{Mat3, Quat, Vec3};
 
 #[unsafe(no_mangle)]
 pub extern "C" fn rt_symmetric_eigen(m: Mat3) -> Eigen
@@ -37,22 +39,22 @@ pub extern "C" fn rt_extract_rotation(a: Mat3, warm: Quat) -> Quat
 }
 
 #[unsafe(no_mangle)]
-pub extern "C" fn rt_cell_volume(x: Four) -> f32
-    ensures { result ≡ cell.cell_volume x }
+pub extern "C" fn rt_cell_volume(x: FourVectors) -> f32
+    ensures { result ≡ cell.cell_volume (as_four x) }
 {
-    shape::cell::cell_volume(x)
+    shape::cell::cell_volume(x.into())
 }
 
 #[unsafe(no_mangle)]
-pub extern "C" fn rt_cell_volume_gradients(x: Four) -> Four
-    ensures { result ≡ cell.cell_volume_gradients x }
+pub extern "C" fn rt_cell_volume_gradients(x: FourVectors) -> FourVectors
+    ensures { as_four result ≡ cell.cell_volume_gradients (as_four x) }
 {
-    shape::cell::cell_volume_gradients(x)
+    shape::cell::cell_volume_gradients(x.into()).into()
 }
 
 #[unsafe(no_mangle)]
-pub extern "C" fn rt_cell_edge_matrix(x: Four) -> Mat3
-    ensures { result ≡ cell.cell_edge_matrix x }
+pub extern "C" fn rt_cell_edge_matrix(x: FourVectors) -> Mat3
+    ensures { result ≡ cell.cell_edge_matrix (as_four x) }
 {
-    shape::cell::cell_edge_matrix(x)
+    shape::cell::cell_edge_matrix(x.into())
 }

@@ -8,28 +8,28 @@ ghost use Rattle.inverse.specs.Inverse as inverse;
 pub extern "C" fn rt_add6(a: &[f32; 6], b: &[f32; 6], out: &mut [f32; 6])
     ensures { out.new ≡ six.add6 a.now b.now }
 {
-    *out = strain::add6(a, b);
+    *out = strain::add(a, b);
 }
 
 #[unsafe(no_mangle)]
 pub extern "C" fn rt_sub6(a: &[f32; 6], b: &[f32; 6], out: &mut [f32; 6])
     ensures { out.new ≡ six.sub6 a.now b.now }
 {
-    *out = strain::sub6(a, b);
+    *out = strain::sub(a, b);
 }
 
 #[unsafe(no_mangle)]
 pub extern "C" fn rt_component_mul6(a: &[f32; 6], b: &[f32; 6], out: &mut [f32; 6])
     ensures { out.new ≡ six.component_mul6 a.now b.now }
 {
-    *out = strain::component_mul6(a, b);
+    *out = strain::component_mul(a, b);
 }
 
 #[unsafe(no_mangle)]
 pub extern "C" fn rt_scale6(a: &[f32; 6], k: f32, out: &mut [f32; 6])
     ensures { out.new ≡ six.scale6 a.now k }
 {
-    *out = strain::scale6(a, k);
+    *out = strain::scale(a, k);
 }
 
 #[unsafe(no_mangle)]
@@ -78,14 +78,14 @@ pub extern "C" fn rt_identity6(out: &mut [f32; 36])
 pub extern "C" fn rt_add36(a: &[f32; 36], b: &[f32; 36], out: &mut [f32; 36])
     ensures { out.new ≡ matrix.add36 a.now b.now }
 {
-    *out = strain::add36(a, b);
+    *out = strain::add(a, b);
 }
 
 #[unsafe(no_mangle)]
 pub extern "C" fn rt_scale36(m: &[f32; 36], k: f32, out: &mut [f32; 36])
     ensures { out.new ≡ matrix.scale36 m.now k }
 {
-    *out = strain::scale36(m, k);
+    *out = strain::scale(m, k);
 }
 
 #[unsafe(no_mangle)]

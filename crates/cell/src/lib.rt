@@ -60,8 +60,8 @@ impl Impulses {
     }
 }
 
-// The strain rows of a cell under a rotation: its coefficients say how the velocities of its places strain it, and what each place is to lose for an impulse
-// goes by them and by its inverse mass.
+// The strain rows of a cell under a rotation: its coefficients say how the velocities of its places strain it, and what each place is to
+// lose for an impulse goes by them and by its inverse mass.
 #[repr(C)]
 #[derive(Clone, Copy)]
 pub struct StrainRows {

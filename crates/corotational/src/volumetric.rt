@@ -3,7 +3,7 @@ ghost use Rattle.std.specs.Prelude.{◌≡◌};
 ghost use Rattle.corotational.specs.Corotational as spec;
 
 use crate::{Springs, Volume};
-use cell::tensor::{outer_sum, strain_rows_of, weighted};
+use cell::tensor::{outer_sum, strain_rows_of};
 use cell::update::capped;
 use cell::{Compliance, StrainRows};
 use places::Masses;
@@ -33,12 +33,12 @@ fn volume_weight(g: Four<Vec3>, im: Masses) -> f32
         + im.d * g.d.length_squared()
 }
 
-#[tactic(auto, unfolding(crate::specs::Corotational::turned_gradients, crate::specs::Corotational::turned_back, cell::specs::Strain::weighted))]
+#[tactic(auto, unfolding(crate::specs::Corotational::turned_gradients, crate::specs::Corotational::turned_back))]
 fn turned_gradients(rot: Mat3, g: Four<Vec3>, im: Masses) -> Four<Vec3>
     ensures { result ≡ spec.turned_gradients rot g im }
 {
     let inv_rot = rot.transpose();
-    weighted(g.map(|g| inv_rot * g), im)
+    g.zip(im, |g, w| inv_rot * g * w)
 }
 
 #[tactic(auto, unfolding(crate::specs::Corotational::coupling))]

@@ -39,7 +39,8 @@ pub struct Gradients {
     pub error: f32,
 }
 
-// Two triangles with a common edge, from particle 0 to particle 1: the edges from particle 0, the unit normals, and the lengths that these had.
+// Two triangles with a common edge, from particle 0 to particle 1: the edges from particle 0, the unit normals, and the lengths that these
+// had.
 #[repr(C)]
 #[derive(Clone, Copy)]
 pub struct Fold {

@@ -25,6 +25,7 @@ struct Elimination {
 struct Singular;
 
 // The row of the pivot of column j; `most` is its magnitude.
+#[tactic(auto, using(crate::specs::Pivot::best_none, crate::specs::Pivot::best_more, crate::specs::Pivot::best_all))]
 fn pivot_row(m: &[f32; 36], j: usize) -> usize
     requires { j < 6 }
     ensures { (result ≡ spec.pivot_row m.now j) × (result < 6) }
@@ -40,6 +41,7 @@ fn pivot_row(m: &[f32; 36], j: usize) -> usize
     best
 }
 
+#[tactic(auto, using(loops::specs::Loops::counted, crate::specs::Pivot::swap_all))]
 fn swap_rows(m: &mut [f32; 36], p: usize, j: usize)
     requires { (length m.old ≡ 36) × (p < 6) × (j < 6) }
     ensures { m.new ≡ spec.swap_rows m.old p j }
@@ -50,6 +52,7 @@ fn swap_rows(m: &mut [f32; 36], p: usize, j: usize)
 }
 
 // Column j below the pivot becomes the multipliers.
+#[tactic(auto, using(loops::specs::Between::counted_from), unfolding(crate::specs::Elimination::scaled))]
 fn scale(m: &mut [f32; 36], j: usize, inv: f32)
     requires { j < 6 }
     ensures { m.new ≡ elimination.scaled j inv m.old }
@@ -60,6 +63,7 @@ fn scale(m: &mut [f32; 36], j: usize, inv: f32)
 }
 
 // Column k below row j loses the multipliers times its entry in row j.
+#[tactic(auto, using(loops::specs::Between::counted_from), unfolding(crate::specs::Elimination::reduced))]
 fn reduce(m: &mut [f32; 36], j: usize, k: usize)
     requires { (j < 6) × (k < 6) }
     ensures { m.new ≡ elimination.reduced j k m.old }
@@ -70,6 +74,7 @@ fn reduce(m: &mut [f32; 36], j: usize, k: usize)
     }
 }
 
+#[tactic(auto, using(loops::specs::Between::counted_from))]
 fn eliminate(m: &mut [f32; 36], j: usize, inv: f32)
     requires { (length m.old ≡ 36) × (j < 6) }
     ensures { m.new ≡ spec.eliminate m.old j inv }
@@ -135,6 +140,7 @@ fn unit(rows: &[usize; 6], c: usize) -> [f32; 6]
     from_fn(|i| pick(rows[i] == c, 1.0, 0.0))
 }
 
+#[tactic(auto, using(loops::specs::Loops::counted), unfolding(crate::specs::Inverse::forward_at))]
 fn forward_at(m: &[f32; 36], x: &[f32; 6], i: usize) -> f32
     requires { i < 6 }
     ensures { result ≡ spec.forward_at m.now x.now i }
@@ -146,6 +152,7 @@ fn forward_at(m: &[f32; 36], x: &[f32; 6], i: usize) -> f32
     acc
 }
 
+#[tactic(auto, using(loops::specs::Loops::counted), unfolding(crate::specs::Inverse::forward))]
 fn forward(m: &[f32; 36], x: &mut [f32; 6])
     ensures { x.new ≡ spec.forward m.now x.old }
 {
@@ -155,6 +162,7 @@ fn forward(m: &[f32; 36], x: &mut [f32; 6])
     }
 }
 
+#[tactic(auto, using(loops::specs::Loops::counted), unfolding(crate::specs::Inverse::backward_at))]
 fn backward_at(m: &[f32; 36], x: &[f32; 6], i: usize) -> f32
     requires { i < 6 }
     ensures { result ≡ spec.backward_at m.now x.now i }
@@ -166,6 +174,7 @@ fn backward_at(m: &[f32; 36], x: &[f32; 6], i: usize) -> f32
     acc / m[i * 6 + i]
 }
 
+#[tactic(auto, using(loops::specs::Loops::counted), unfolding(crate::specs::Inverse::backward))]
 fn backward(m: &[f32; 36], x: &mut [f32; 6])
     ensures { x.new ≡ spec.backward m.now x.old }
 {

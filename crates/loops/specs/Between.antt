@@ -58,6 +58,9 @@ module _ {S : Type 0} {a n : ℕ} {f : ℕ → S → S} {s : S} where
   pub through : (P : ℕ → S → Type 0) → a ≤ n → P a s → ((i : ℕ) (t : S) → a ≤ i → i < n → P i t → P (i + 1) (f i t)) → P n (between a n f s)
   through P h z g = let k : a + (n - a) ≡ n = omega arith in subst (λ (i : ℕ). P i (between a n f s)) k (turn P z g (n - a) (omega arith))
 
+-- what the goals of a loop that starts anywhere are proved by
+pub ruleset counted_from = (went_none, went_more, went_all)
+
 -- turns that leave the first state as it is may be left out
 pub skip : {S : Type 0} (a n : ℕ) (f : ℕ → S → S) (s : S) → a ≤ n → ((i : ℕ) → i < a → f i s ≡ s) → between a n f s ≡ up_to n f s
 skip a n f s h g = through {n = n} {f = f} (λ i t. t ≡ up_to i f s) h (sym (still a (le_refl a))) (λ i t p q e. rw (add-one i) (ap (f i) e))

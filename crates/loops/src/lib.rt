@@ -1,9 +1,2 @@
-// Laws on loops, lists and tables of examples, which stand in specs/. There is no code to prove here, but a crate has at least one function.
+// Laws on loops, lists and tables of examples, which stand in specs/. There is no code.
 #![tactic(auto)]
-
-ghost use Rattle.std.specs.Prelude.{◌≡◌};
-
-// The one value of its type.
-fn nothing()
-    ensures { result ≡ tt }
-{}

@@ -6,7 +6,8 @@ ghost use Rattle.places.specs.Places as spec;
 
 use vector::{Four, Vec3};
 
-// What the places hold: positions or velocities. A place that is not named (its id is 0xFFFFFFFF, or it lies past a scalar row's count) is skipped.
+// What the places hold: positions or velocities. A place that is not named (its id is 0xFFFFFFFF, or it lies past a scalar row's count)
+// holds none, and is skipped.
 pub type Holds = Four<Option<Vec3>>;
 
 // The ids of the four places.

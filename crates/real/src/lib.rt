@@ -1,4 +1,4 @@
-// Functions of one or two f32 that Rust has as methods, with the arithmetic of document 01, and the source's `inv`.
+// Functions of one or two f32 that Rust has as methods, of which each gives one answer on every machine, and the source's `inv`.
 #![tactic(auto)]
 
 ghost use Rattle.std.specs.Prelude.{◌≡◌, ◌*◌, ◌%◌, ◌^◌, cond};
@@ -17,7 +17,7 @@ pub fn pick<T: Copy>(b: bool, x: T, y: T) -> T
 pub fn is_nan(x: f32) -> bool
     ensures { result ≡ is_nan x }
 {
-    x != x
+    x.is_nan()
 }
 
 // The greater of x and 0 - x, which is exact, and +0 for a zero of either sign. The compiler makes of it a subtraction and a maximum.
@@ -31,21 +31,23 @@ pub fn abs(x: f32) -> f32
 pub fn signum(x: f32) -> f32
     ensures { result ≡ spec.signum x }
 {
-    if x != x {
+    if x.is_nan() {
         return x;
     }
-    if 0x8000_0000 <= f32::to_bits(x) {
+    if 0x8000_0000 <= x.to_bits() {
         return -1.0;
     }
     1.0
 }
 
+#[tactic(auto, unfolding(crate::specs::Real::max))]
 pub fn max(a: f32, b: f32) -> f32
     ensures { result ≡ spec.max a b }
 {
     pick(is_nan(a), b, pick(is_nan(b), a, pick(b <= a, a, b)))
 }
 
+#[tactic(auto, unfolding(crate::specs::Real::clamp))]
 pub fn clamp(x: f32, lower: f32, upper: f32) -> f32
     ensures { result ≡ spec.clamp x lower upper }
 {
@@ -53,15 +55,14 @@ pub fn clamp(x: f32, lower: f32, upper: f32) -> f32
     pick(upper < y, upper, y)
 }
 
+#[tactic(auto, unfolding(crate::specs::Real::is_tiny))]
 fn is_tiny(x: f32) -> bool
     ensures { result ≡ spec.is_tiny x }
 {
-    if -1.0e-20 <= x {
-        return x <= 1.0e-20;
-    }
-    false
+    -1.0e-20 <= x && x <= 1.0e-20
 }
 
+#[tactic(auto, unfolding(crate::specs::Real::inv))]
 pub fn inv(x: f32) -> f32
     ensures { result ≡ spec.inv x }
 {
@@ -81,10 +82,8 @@ fn left_of(n: u32, k: u32) -> u32
     ensures { result ≡ n * 2 ^ k % 13176795 }
 {
     let mut r = n % 13176795;
-    let mut i: u32 = 0;
-    while i < k {
+    for _ in 0..k {
         r = 2 * r % 13176795;
-        i += 1;
     }
     r
 }
@@ -94,10 +93,10 @@ fn left_of(n: u32, k: u32) -> u32
 pub fn rem_turn(x: f32) -> f32
     ensures { result ≡ sine.rem_turn x }
 {
-    if x != x {
+    if x.is_nan() {
         return x;
     }
-    let b = f32::to_bits(x);
+    let b = x.to_bits();
     let power = b % 0x8000_0000 / 0x80_0000;
     if power == 255 {
         return x - x;
@@ -112,6 +111,7 @@ pub fn rem_turn(x: f32) -> f32
     r as f32 * 4.76837158203125e-7
 }
 
+#[tactic(auto, unfolding(crate::specs::SinCos::sin_cos_small))]
 fn sin_cos_small(t: f32) -> SinCos
     ensures { result ≡ sine.sin_cos_small t }
 {
@@ -122,6 +122,7 @@ fn sin_cos_small(t: f32) -> SinCos
     }
 }
 
+#[tactic(auto, unfolding(crate::specs::SinCos::doubled))]
 fn doubled(a: SinCos) -> SinCos
     ensures { result ≡ sine.doubled a }
 {
@@ -135,8 +136,11 @@ fn doubled(a: SinCos) -> SinCos
 pub fn sin_cos(w: f32) -> SinCos
     ensures { result ≡ sine.sin_cos w }
 {
-    let a = sin_cos_small(rem_turn(w * 0.5) / 64.0);
-    doubled(doubled(doubled(doubled(doubled(doubled(a))))))
+    let mut a = sin_cos_small(rem_turn(w * 0.5) / 64.0);
+    for _ in 0usize..6 {
+        a = doubled(a);
+    }
+    a
 }
 
 const C0: f32 = 1.5707963050;
@@ -161,12 +165,14 @@ fn acos_polynomial(d: f32) -> f32
     ((((((C7 * d + C6) * d + C5) * d + C4) * d + C3) * d + C2) * d + C1) * d + C0
 }
 
+#[tactic(auto, unfolding(crate::specs::Acos::acos_up))]
 fn acos_up(d: f32) -> f32
     ensures { result ≡ arc.acos_up d }
 {
     root::root(1.0 - d) * acos_polynomial(d)
 }
 
+#[tactic(auto, unfolding(crate::specs::Acos::acos))]
 pub fn acos(d: f32) -> f32
     ensures { result ≡ arc.acos d }
 {

@@ -1,10 +1,10 @@
 -- What is counted of a file of records, and what of several files. What a file holds no contract can say: it is some list of bytes. Assumes nothing.
-use Rattle.std.specs.Prelude.{◌≡◌, ℕ, ◌+◌, ◌-◌, ◌*◌, ◌%◌, ◌^◌, ◌<◌, ◌≤◌, Bool, cond, List, [], ◌∷◌, length}
-use Rattle.std.proofs.Math.Path.{refl}
+use Rattle.std.specs.Prelude.{◌≡◌, refl, ℕ, ◌+◌, ◌*◌, ◌/◌, ◌%◌, ◌^◌, ◌<◌, ◌≤◌, Bool, true, false, cond, List, [], ◌∷◌, length}
 use Rattle.std.proofs.Common.{add-mul, add-one, arith}
+use Rattle.std.proofs.Math.Nat.{div-mul-le_self, lt-div-mul-add, mul-le-mul_right}
 use Rattle.loops.specs.Loops.{up_to}
 use Rattle.replay.specs.Words.{words_at}
-use Rattle.replay.specs.declared.file.Tally.{Tally}
+use Rattle.replay.specs.declared.tally.Tally.{Tally}
 
 -- the sums wrap only past any file's records
 abbrev pub plus : Tally → Tally → Tally
@@ -13,6 +13,10 @@ plus t u = record { records = (t.records + u.records) % 2 ^ 64; differ = (t.diff
 -- 1 for a record that does not agree
 abbrev pub miss : Bool → ℕ
 miss b = cond b 0 1
+
+pub miss_few : (b : Bool) → miss b ≤ 1
+miss_few true = omega arith
+miss_few false = omega arith
 
 -- of how many of the first n records, of `size` words each, the answer is not what was stored
 unfoldable pub misses : (List ℕ → Bool) → List ℕ → ℕ → ℕ → ℕ
@@ -42,38 +46,40 @@ pub data Through : List File → Tally → Tally → Type 0 where
   none : {t : Tally} → Through [] t t
   one : {f : File} {fs : List File} {t u r : Tally} → Replayed f.agrees f.size t u → Through fs u r → Through (f ∷ fs) t r
 
--- ---- the walk over a file's records: `records` of them passed, which end at `at`
+-- ---- the walk over a file's records
 
-pub record Walked (agrees : List ℕ → Bool) (s : List ℕ) (size records differ at : ℕ) : Type 0 where
-  pub passed : at ≡ records * (4 * size)
-  pub low : at ≤ length s
-  pub fits : records ≤ at
-  pub few : differ ≤ records
-  pub counted : differ ≡ misses agrees s size records
+-- i of them were passed
+pub record Walked (agrees : List ℕ → Bool) (s : List ℕ) (size i : ℕ) (r : Tally) : Type 0 where
+  pub passed : r.records ≡ i
+  pub few : r.differ ≤ i
+  pub counted : r.differ ≡ misses agrees s size i
+
+-- record i of so many bytes ends within s
+pub fits : (i bytes : ℕ) (s : List ℕ) → i < length s / bytes → i * bytes + bytes ≤ length s
+fits i bytes s h = omega (arith, mul-le-mul_right {m = i + 1} {n = length s / bytes} bytes (omega arith), div-mul-le_self (length s) bytes, add-mul i 1 bytes)
 
 module _ {agrees : List ℕ → Bool} {s : List ℕ} {size : ℕ} where
-  pub begins : Walked agrees s size 0 0 0
+  pub begins : Walked agrees s size 0 (record { records = 0; differ = 0 })
   unfolding misses
-  begins = record { passed = omega arith; low = omega arith; fits = omega arith; few = omega arith; counted = refl }
+  begins = record { passed = refl; few = omega arith; counted = refl }
 
-  pub again : {records differ at d : ℕ} {w : List ℕ} → Walked agrees s size records differ at → 1 ≤ size → 4 * size ≤ length s - at → d ≤ 1
-      → w ≡ words_at s at size → d ≡ miss (agrees w) → Walked agrees s size (records + 1) (differ + d) (at + 4 * size)
+  pub again : {i : ℕ} {r u : Tally} {w : List ℕ} {b : Bool} → Walked agrees s size i r → w ≡ words_at s (i * (4 * size)) size → b ≡ agrees w
+      → u.records ≡ r.records + 1 → u.differ ≡ r.differ + miss b → Walked agrees s size (i + 1) u
   unfolding misses
-  again {records} {differ} {at} {d} {w} h some fit small read e =
+  again {i} {r} {u} {w} {b} h read e next more =
       record {
-        passed = rw (add-mul records 1 (4 * size)) (omega (arith, h.passed));
-        low = omega (arith, h.low);
-        fits = omega (arith, h.fits);
-        few = omega (arith, h.few);
-        counted = rw (add-one records, ← h.counted, ← h.passed, ← read, ← e) refl;
+        passed = omega (arith, h.passed);
+        few = omega (arith, h.few, miss_few b);
+        counted = rw (add-one i, ← h.counted, ← read, ← e) more;
       }
 
-  pub ends : {records differ at : ℕ} → Walked agrees s size records differ at → length s - at < 4 * size
-      → Tallied agrees s size (record { records = records; differ = differ })
-  ends {records} {differ} {at} h short =
+  pub ends : {r : Tally} → 1 ≤ size → Walked agrees s size (length s / (4 * size)) r → Tallied agrees s size r
+  ends {r} some h =
+      let whole = div-mul-le_self (length s) (4 * size) in
+      let rest = lt-div-mul-add {a = length s} {b = 4 * size} (omega arith) in
       record {
-        whole = omega (arith, h.passed, h.low);
-        rest = omega (arith, h.passed, h.low);
-        counted = h.counted;
-        few = h.few;
+        whole = rw h.passed whole;
+        rest = rw h.passed rest;
+        counted = rw h.passed h.counted;
+        few = rw h.passed h.few;
       }

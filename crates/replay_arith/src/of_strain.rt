@@ -1,90 +1,74 @@
 // The functions of the crates `strain` and `inverse`.
-ghost use Rattle.std.specs.Prelude.{◌≡◌};
 ghost use Rattle.replay.specs.Tallies.{Through};
 ghost use Rattle.replay_arith.specs.OfStrain as spec;
 
-use crate::{Function, replay_file};
-use replay::{Tally, flat, flat_is, float, float_is, six, six_is};
+use crate::Replay;
 use std::fs::Files;
 use std::io::Print;
 
-#[derive(Clone, Copy)]
-pub(crate) enum Strain {
-    Add6,
-    Sub6,
-    Scale6,
-    ComponentMul6,
-    Dot6,
-    MatVec,
-    MatMul,
-    Add36,
-    Scale36,
-    Ger,
-    FromDiagonal,
-    Identity6,
-    TryInverse,
-}
-
-// Each with the words of its records.
-pub(crate) fn all(rt: &(impl Files + Print), t: Tally) -> Tally
-    ensures { Through spec.files t result }
+// Each with the words of its records, and whether the function's answer to a record's first words is what stands after them.
+pub(crate) fn all<R: Files + Print + Alloc>(replay: &mut Replay<R>)
+    ensures { Through spec.files replay.old.tally replay.new.tally }
 {
-    let t = replay_file(rt, t, b"add6.bin", Function::Strain(Strain::Add6), 18);
-    let t = replay_file(rt, t, b"sub6.bin", Function::Strain(Strain::Sub6), 18);
-    let t = replay_file(rt, t, b"scale6.bin", Function::Strain(Strain::Scale6), 13);
-    let t = replay_file(
-        rt,
-        t,
-        b"component_mul6.bin",
-        Function::Strain(Strain::ComponentMul6),
+    replay.file(
+        b"add6.bin",
         18,
+        |w| w.holds(12, strain::add::<6>(&w.at(0), &w.at(6))),
     );
-    let t = replay_file(rt, t, b"dot6.bin", Function::Strain(Strain::Dot6), 13);
-    let t = replay_file(rt, t, b"mat_vec.bin", Function::Strain(Strain::MatVec), 48);
-    let t = replay_file(rt, t, b"mat_mul.bin", Function::Strain(Strain::MatMul), 108);
-    let t = replay_file(rt, t, b"add36.bin", Function::Strain(Strain::Add36), 108);
-    let t = replay_file(rt, t, b"scale36.bin", Function::Strain(Strain::Scale36), 73);
-    let t = replay_file(rt, t, b"ger.bin", Function::Strain(Strain::Ger), 79);
-    let t = replay_file(
-        rt,
-        t,
+    replay.file(
+        b"sub6.bin",
+        18,
+        |w| w.holds(12, strain::sub::<6>(&w.at(0), &w.at(6))),
+    );
+    replay.file(
+        b"scale6.bin",
+        13,
+        |w| w.holds(7, strain::scale::<6>(&w.at(0), w.at(6))),
+    );
+    replay.file(
+        b"component_mul6.bin",
+        18,
+        |w| w.holds(12, strain::component_mul::<6>(&w.at(0), &w.at(6))),
+    );
+    replay.file(
+        b"dot6.bin",
+        13,
+        |w| w.holds(12, strain::dot6(&w.at(0), &w.at(6))),
+    );
+    replay.file(
+        b"mat_vec.bin",
+        48,
+        |w| w.holds(42, strain::mat_vec(&w.at(0), &w.at(36))),
+    );
+    replay.file(
+        b"mat_mul.bin",
+        108,
+        |w| w.holds(72, strain::mat_mul(&w.at(0), &w.at(36))),
+    );
+    replay.file(
+        b"add36.bin",
+        108,
+        |w| w.holds(72, strain::add::<36>(&w.at(0), &w.at(36))),
+    );
+    replay.file(
+        b"scale36.bin",
+        73,
+        |w| w.holds(37, strain::scale::<36>(&w.at(0), w.at(36))),
+    );
+    replay.file(
+        b"ger.bin",
+        79,
+        |w| w.holds(43, strain::ger(w.at(0), &w.at(1), &w.at(7))),
+    );
+    replay.file(
         b"from_diagonal.bin",
-        Function::Strain(Strain::FromDiagonal),
         42,
+        |w| w.holds(6, strain::from_diagonal(&w.at(0))),
     );
-    let t = replay_file(
-        rt,
-        t,
-        b"identity6.bin",
-        Function::Strain(Strain::Identity6),
-        36,
-    );
-    replay_file(
-        rt,
-        t,
+    replay.file(b"identity6.bin", 36, |w| w.holds(0, strain::identity6()));
+    replay.file(
         b"try_inverse.bin",
-        Function::Strain(Strain::TryInverse),
         72,
-    )
-}
-
-// Whether the function's answer to the record's first words is what stands after them.
-pub(crate) fn agrees(f: Strain, w: &[u32; 400]) -> bool
-    ensures { result ≡ spec.of_strain f w.now }
-{
-    match f {
-        Strain::Add6 => six_is(w, 12, &strain::add6(&six(w, 0), &six(w, 6))),
-        Strain::Sub6 => six_is(w, 12, &strain::sub6(&six(w, 0), &six(w, 6))),
-        Strain::Scale6 => six_is(w, 7, &strain::scale6(&six(w, 0), float(w, 6))),
-        Strain::ComponentMul6 => six_is(w, 12, &strain::component_mul6(&six(w, 0), &six(w, 6))),
-        Strain::Dot6 => float_is(w, 12, strain::dot6(&six(w, 0), &six(w, 6))),
-        Strain::MatVec => six_is(w, 42, &strain::mat_vec(&flat(w, 0), &six(w, 36))),
-        Strain::MatMul => flat_is(w, 72, &strain::mat_mul(&flat(w, 0), &flat(w, 36))),
-        Strain::Add36 => flat_is(w, 72, &strain::add36(&flat(w, 0), &flat(w, 36))),
-        Strain::Scale36 => flat_is(w, 37, &strain::scale36(&flat(w, 0), float(w, 36))),
-        Strain::Ger => flat_is(w, 43, &strain::ger(float(w, 0), &six(w, 1), &flat(w, 7))),
-        Strain::FromDiagonal => flat_is(w, 6, &strain::from_diagonal(&six(w, 0))),
-        Strain::Identity6 => flat_is(w, 0, &strain::identity6()),
-        Strain::TryInverse => flat_is(w, 36, &inverse::try_inverse(&flat(w, 0))),
-    }
+        |w| w.holds(36, inverse::try_inverse(&w.at(0))),
+    );
 }

@@ -1,69 +1,52 @@
 // The functions of the crate `vector` on vectors.
-ghost use Rattle.std.specs.Prelude.{◌≡◌};
 ghost use Rattle.replay.specs.Tallies.{Through};
 ghost use Rattle.replay_arith.specs.OfVector as spec;
 
-use crate::{Function, replay_file};
-use replay::{Tally, float, float_is, vec3, vec3_is};
+use crate::Replay;
 use std::fs::Files;
 use std::io::Print;
+use vector::Vec3;
 
-#[derive(Clone, Copy)]
-pub(crate) enum Vector {
-    Dot,
-    Cross,
-    Length,
-    LengthSquared,
-    ElementSum,
-    Add,
-    Sub,
-    Scale,
-    Divide,
-    Neg,
-}
-
-// Each with the words of its records.
-pub(crate) fn all(rt: &(impl Files + Print), t: Tally) -> Tally
-    ensures { Through spec.files t result }
+// Each with the words of its records, and whether the function's answer to a record's first words is what stands after them.
+pub(crate) fn all<R: Files + Print + Alloc>(replay: &mut Replay<R>)
+    ensures { Through spec.files replay.old.tally replay.new.tally }
 {
-    let t = replay_file(rt, t, b"dot.bin", Function::Vector(Vector::Dot), 7);
-    let t = replay_file(rt, t, b"cross.bin", Function::Vector(Vector::Cross), 9);
-    let t = replay_file(rt, t, b"length.bin", Function::Vector(Vector::Length), 4);
-    let t = replay_file(
-        rt,
-        t,
+    replay.file(b"dot.bin", 7, |w| w.holds(6, w.at::<Vec3>(0).dot(w.at(3))));
+    replay.file(
+        b"cross.bin",
+        9,
+        |w| w.holds(6, w.at::<Vec3>(0).cross(w.at(3))),
+    );
+    replay.file(b"length.bin", 4, |w| w.holds(3, w.at::<Vec3>(0).length()));
+    replay.file(
         b"length_squared.bin",
-        Function::Vector(Vector::LengthSquared),
         4,
+        |w| w.holds(3, w.at::<Vec3>(0).length_squared()),
     );
-    let t = replay_file(
-        rt,
-        t,
+    replay.file(
         b"element_sum.bin",
-        Function::Vector(Vector::ElementSum),
         4,
+        |w| w.holds(3, w.at::<Vec3>(0).element_sum()),
     );
-    let t = replay_file(rt, t, b"add.bin", Function::Vector(Vector::Add), 9);
-    let t = replay_file(rt, t, b"sub.bin", Function::Vector(Vector::Sub), 9);
-    let t = replay_file(rt, t, b"scale.bin", Function::Vector(Vector::Scale), 7);
-    let t = replay_file(rt, t, b"divide.bin", Function::Vector(Vector::Divide), 7);
-    replay_file(rt, t, b"neg.bin", Function::Vector(Vector::Neg), 6)
-}
-
-// Whether the function's answer to the record's first words is what stands after them.
-pub(crate) fn agrees(f: Vector, w: &[u32; 400]) -> bool
-    ensures { result ≡ spec.of_vector f w.now }
-{
-    match f {
-        Vector::Dot => float_is(w, 6, vector::dot(vec3(w, 0), vec3(w, 3))),
-        Vector::Cross => vec3_is(w, 6, vector::cross(vec3(w, 0), vec3(w, 3))),
-        Vector::Length => float_is(w, 3, vector::length(vec3(w, 0))),
-        Vector::LengthSquared => float_is(w, 3, vector::length_squared(vec3(w, 0))),
-        Vector::ElementSum => float_is(w, 3, vector::element_sum(vec3(w, 0))),
-        Vector::Add => vec3_is(w, 6, vector::add(vec3(w, 0), vec3(w, 3))),
-        Vector::Sub => vec3_is(w, 6, vector::sub(vec3(w, 0), vec3(w, 3))),
-        Vector::Scale => vec3_is(w, 4, vector::scale(vec3(w, 0), float(w, 3))),
-        Vector::Divide => vec3_is(w, 4, vector::divide(vec3(w, 0), float(w, 3))),
-        Vector::Neg => vec3_is(w, 3, vector::neg(vec3(w, 0))),
-    }
+    replay.file(
+        b"add.bin",
+        9,
+        |w| w.holds(6, w.at::<Vec3>(0) + w.at::<Vec3>(3)),
+    );
+    replay.file(
+        b"sub.bin",
+        9,
+        |w| w.holds(6, w.at::<Vec3>(0) - w.at::<Vec3>(3)),
+    );
+    replay.file(
+        b"scale.bin",
+        7,
+        |w| w.holds(4, w.at::<Vec3>(0) * w.at::<f32>(3)),
+    );
+    replay.file(
+        b"divide.bin",
+        7,
+        |w| w.holds(4, w.at::<Vec3>(0) / w.at::<f32>(3)),
+    );
+    replay.file(b"neg.bin", 6, |w| w.holds(3, -w.at::<Vec3>(0)));
 }

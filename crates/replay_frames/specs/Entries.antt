@@ -1,8 +1,7 @@
 -- An entry of the file `frames`: so many bytes of the base with two of its fields replaced, and the number and place that check must answer. Assumes nothing.
-use Rattle.std.specs.Prelude.{ℕ, ◌+◌, ◌%◌, ◌≤◌, ◌<◌, ◌≡◌, Bool, true, false, cond, ◌&&◌, List, eqb, leb, length, take}
-use Rattle.std.proofs.Math.Path.{refl}
-use Rattle.std.proofs.Common.{arith}
-use borrow.Author.Tests.{le-leb, lt-leb, eq-eqb, ne_eqb}
+use Rattle.std.specs.Prelude.{ℕ, ◌+◌, ◌%◌, ◌≡◌, Bool, true, false, cond, ◌&&◌, List, eqb, leb, length, take}
+use Rattle.std.proofs.Common.{sym, arith}
+use Rattle.replay.specs.Tallies.{miss}
 use Rattle.little_endian.specs.Bytes.{le16, le32, bytes2, bytes4, patch}
 use Rattle.records.specs.declared.Answer.{Answer}
 use Rattle.frame.specs.Check.{check_of}
@@ -11,30 +10,24 @@ abbrev pub same : Answer → ℕ → ℕ → Bool
 same a number place = eqb a.number number && eqb a.place place
 
 -- a number in 2 or 4 bytes at `at`, where they fit
-unfoldable pub put2 : List ℕ → ℕ → ℕ → List ℕ
+abbrev pub put2 : List ℕ → ℕ → ℕ → List ℕ
 put2 s at n = cond (leb (at + 2) (length s)) (patch s at (bytes2 (n % 65536))) s
 
-unfoldable pub put4 : List ℕ → ℕ → ℕ → List ℕ
+abbrev pub put4 : List ℕ → ℕ → ℕ → List ℕ
 put4 s at n = cond (leb (at + 4) (length s)) (patch s at (bytes4 n)) s
 
 -- in w bytes; nothing where w is neither 2 nor 4
-unfoldable pub put : List ℕ → ℕ → ℕ → ℕ → List ℕ
+abbrev pub put : List ℕ → ℕ → ℕ → ℕ → List ℕ
 put s at w n = cond (eqb w 2) (put2 s at n) (cond (eqb w 4) (put4 s at n) s)
 
-unfoldable pub answered : List ℕ → ℕ → ℕ → ℕ → Bool
+abbrev pub answered : List ℕ → ℕ → ℕ → ℕ → Bool
 answered s len number place = cond (leb len (length s)) (same (check_of (take len s)) number place) false
 
-unfoldable pub as_stored : List ℕ → List ℕ → Bool
+abbrev pub as_stored : List ℕ → List ℕ → Bool
 as_stored base entry =
     answered
     (put (put base (le16 entry 2) (le16 entry 4) (le32 entry 6)) (le16 entry 10) (le16 entry 12) (le32 entry 14))
     (le16 entry 0) (le16 entry 18) (le16 entry 20)
-
--- what is told of the next entry: 0 it is answered as stored, 1 otherwise, 2 there is none
-pub data Told (base : List ℕ) : ℕ → Type 0 where
-  right : (entry : List ℕ) → as_stored base entry ≡ true → Told base 0
-  wrong : (entry : List ℕ) → as_stored base entry ≡ false → Told base 1
-  no_more : Told base 2
 
 -- of `tried` entries `bad` are answered otherwise
 pub data Counted (base : List ℕ) : ℕ → ℕ → Type 0 where
@@ -42,53 +35,10 @@ pub data Counted (base : List ℕ) : ℕ → ℕ → Type 0 where
   one_right : {tried bad : ℕ} (entry : List ℕ) → as_stored base entry ≡ true → Counted base tried bad → Counted base (tried + 1) bad
   one_wrong : {tried bad : ℕ} (entry : List ℕ) → as_stored base entry ≡ false → Counted base tried bad → Counted base (tried + 1) (bad + 1)
 
-module _ {base : List ℕ} {tried bad : ℕ} (before : Counted base tried bad) where
-  pub counts_right : (got : ℕ) → Told base got → (got ≡ 2 → ⊥) → (got ≡ 1 → ⊥) → Counted base (tried + 1) bad
-  counts_right got (right entry e) p q = one_right entry e before
-  counts_right got (wrong entry e) p q = absurd (q refl)
-  counts_right got no_more p q = absurd (p refl)
-
-  pub counts_wrong : (got : ℕ) → Told base got → got ≡ 1 → Counted base (tried + 1) (bad + 1)
-  counts_wrong got (right entry e) p = absurd (omega (arith, p))
-  counts_wrong got (wrong entry e) p = one_wrong entry e before
-  counts_wrong got no_more p = absurd (omega (arith, p))
-
--- ---- each case of the definitions
-
-module _ (s : List ℕ) (at n : ℕ) where
-  pub two_fit : {t : List ℕ} → at + 2 ≤ length s → t ≡ patch s at (bytes2 (n % 65536)) → t ≡ put2 s at n
-  unfolding put2
-  two_fit h e = rw (le-leb (at + 2) (length s) h) e
-
-  pub two_do_not : length s < at + 2 → s ≡ put2 s at n
-  unfolding put2
-  two_do_not h = rw (lt-leb (at + 2) (length s) h) refl
-
-  pub four_fit : {t : List ℕ} → at + 4 ≤ length s → t ≡ patch s at (bytes4 n) → t ≡ put4 s at n
-  unfolding put4
-  four_fit h e = rw (le-leb (at + 4) (length s) h) e
-
-  pub four_do_not : length s < at + 4 → s ≡ put4 s at n
-  unfolding put4
-  four_do_not h = rw (lt-leb (at + 4) (length s) h) refl
-
-  pub of_two : {t : List ℕ} (w : ℕ) → w ≡ 2 → t ≡ put2 s at n → t ≡ put s at w n
-  unfolding put
-  of_two w h e = rw (eq-eqb w 2 h) e
-
-  pub of_four : {t : List ℕ} (w : ℕ) → (w ≡ 2 → ⊥) → w ≡ 4 → t ≡ put4 s at n → t ≡ put s at w n
-  unfolding put
-  of_four w g h e = rw (ne_eqb w 2 g, eq-eqb w 4 h) e
-
-  pub of_neither : (w : ℕ) → (w ≡ 2 → ⊥) → (w ≡ 4 → ⊥) → s ≡ put s at w n
-  unfolding put
-  of_neither w g h = rw (ne_eqb w 2 g, ne_eqb w 4 h) refl
-
-module _ (s : List ℕ) (len number place : ℕ) where
-  pub of_a_part : {a : Answer} {b : Bool} → len ≤ length s → a ≡ check_of (take len s) → b ≡ same a number place → b ≡ answered s len number place
-  unfolding answered
-  of_a_part h e f = rw (le-leb len (length s) h, ← e) f
-
-  pub of_too_few : length s < len → false ≡ answered s len number place
-  unfolding answered
-  of_too_few h = rw (lt-leb len (length s) h) refl
+-- one entry more
+pub counted : {base : List ℕ} {tried bad tried' bad' : ℕ} {b : Bool} (entry : List ℕ) → Counted base tried bad → b ≡ as_stored base entry
+    → tried' ≡ tried + 1 → bad' ≡ bad + miss b → Counted base tried' bad'
+counted {bad = bad} {bad' = bad'} {b = true} entry before e n d =
+    let z : bad' ≡ bad = omega (arith, d) in
+    rw (n, z) (one_right entry (sym e) before)
+counted {b = false} entry before e n d = rw (n, d) (one_wrong entry (sym e) before)

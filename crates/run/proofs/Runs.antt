@@ -6,10 +6,13 @@ use mathlib.Core.List.{List, [], ◌∷◌, ◌++◌}
 use native.Mathlib.Omega.{arith}
 use lib.ListN.{length, length-append}
 use borrow.Author.Tests.{eq-eqb, ne_eqb}
+use Rattle.std.specs.Prelude.{Result, Ok, Err}
 use Rattle.little_endian.specs.Bytes.{le16, le32}
 use Rattle.records.specs.declared.Answer.{Answer}
 use Rattle.records.specs.declared.Due.TheVariants.{Point, Row}
-use Rattle.records.proofs.Firsts.{first_passed}
+use Rattle.records.specs.declared.Refused.{Refused}
+use Rattle.records.specs.Answers.{number_of, answer_of}
+use Rattle.records.proofs.Firsts.{first_passed, never_0}
 use Rattle.records.specs.Records.{flatten}
 use Rattle.records.proofs.ByKind.{Kind, a_scalar, a_corotational, a_neo_hookean}
 use Rattle.frame.specs.Frames.{count_n, count_r, resweeps_of, head, points, rows}
@@ -67,11 +70,11 @@ laid_of s w = record {
   points = points_sized 0 (points s) w.good_points;
 }
 
-module _ (s : List ℕ) (a : Answer) (e : a ≡ check_of s) where
+module _ (s : List ℕ) (o : Result Unit Refused) (e : answer_of o ≡ check_of s) where
   -- number 0 is given to accepted frames alone
-  module _ (z : a.number ≡ 0) where
+  module _ {u : Unit} (z : o ≡ Ok u) where
     number : (check_of s).number ≡ 0
-    number = ap (λ (x : Answer). x.number) (sym e) ∙ z
+    number = ap (λ (x : Answer). x.number) (sym e) ∙ ap (λ (x : Result Unit Refused). (answer_of x).number) z
 
     frame : Whole s
     unfolding check_of
@@ -108,9 +111,11 @@ module _ (s : List ℕ) (a : Answer) (e : a ≡ check_of s) where
         ∙ (λ i. lay (head s) (run (step_of (en i) (et i)) (resweep_step (en i)) (ek i) (rows s) (points s)))
         ∙ simp (eq-eqb (check_of s).number 0 number)
 
-  pub not_run : (a.number ≡ 0 → ⊥) → s ≡ leaves s
+  pub not_run : (x : Refused) → o ≡ Err x → s ≡ leaves s
   unfolding leaves
-  not_run z = simp (ne_eqb (check_of s).number 0 (λ q. z (ap (λ (x : Answer). x.number) e ∙ q)))
+  not_run x z =
+      let n : number_of x.why ≡ (check_of s).number = ap (λ (y : Result Unit Refused). (answer_of y).number) (sym z) ∙ ap (λ (y : Answer). y.number) e in
+      simp (ne_eqb (check_of s).number 0 (λ q. never_0 x.why (n ∙ q)))
 
 -- the main sweep is no resweep
 pub main_first : (s : List ℕ) (t : Turn) → t ≡ main_turn s → t.resweep ≡ false

@@ -2,11 +2,12 @@
 #![tactic(auto)]
 
 ghost use Rattle.std.specs.Prelude.{◌≡◌, ℕ, ◌≤◌, length};
+ghost use Rattle.records.specs.Answers.{answer_of};
 ghost use Rattle.frame.specs.Check.{check_of};
 ghost use Rattle.stored.specs.Run.{answers, leaves};
 ghost use Rattle.run.specs.Start.{main_turn};
 
-use records::{Answer, layout};
+use records::{Refused, layout};
 use sweep::Turn;
 
 fn main_turn(s: &[u8]) -> Turn
@@ -23,25 +24,22 @@ fn main_turn(s: &[u8]) -> Turn
     }
 }
 
-// Whether a frame would be run: the number and the place of the first test that it fails, or 0 at 0. Never writes.
-pub fn check(s: &[u8]) -> Answer
-    ensures { result ≡ check_of s.now }
+// Whether a frame would be run, or the first test that it fails. Never writes.
+pub fn check(s: &[u8]) -> Result<(), Refused>
+    ensures { answer_of result ≡ check_of s.now }
 {
     frame::check(s)
 }
 
-// The number and the place are check's. A refused frame is left as it was, to the last byte; an accepted one is left as the rules say.
-pub fn run(s: &mut [u8]) -> Answer
-    ensures { (result ≡ answers s.old) × (s.new ≡ leaves s.old) }
+// The refusal is check's. A refused frame is left as it was, to the last byte; an accepted one is left as the rules say.
+pub fn run(s: &mut [u8]) -> Result<(), Refused>
+    ensures { (answer_of result ≡ answers s.old) × (s.new ≡ leaves s.old) }
 {
-    let a = frame::check(s);
-    if a.number != 0 {
-        return a;
-    }
+    frame::check(s)?;
     let n = little_endian::get_u32(s, layout::HEAD_POINTS) as usize;
     let r = little_endian::get_u32(s, layout::HEAD_ROWS) as usize;
     let k = little_endian::get_u16(s, layout::HEAD_RESWEEPS);
     let t = main_turn(s);
     sweep::sweep_all(t, k, n, r, s);
-    a
+    Ok(())
 }

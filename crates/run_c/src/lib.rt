@@ -12,7 +12,7 @@ use records::Answer;
 pub extern "C" fn check(s: &[u8]) -> Answer
     ensures { result ≡ check_of s.now }
 {
-    run::check(s)
+    Answer::from(run::check(s))
 }
 
 // The number and the place are check's. A refused frame is left as it was, to the last byte; an accepted one is left as the rules say.
@@ -20,5 +20,5 @@ pub extern "C" fn check(s: &[u8]) -> Answer
 pub extern "C" fn run(s: &mut [u8]) -> Answer
     ensures { (result ≡ answers s.old) × (s.new ≡ leaves s.old) }
 {
-    run::run(s)
+    Answer::from(run::run(s))
 }

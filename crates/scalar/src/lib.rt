@@ -1,5 +1,5 @@
-// The scalar row of soft_scalar_constraint.rs: its update, its warm start, its solve and the test for strain. No row function sees a frame: what the row's
-// places hold goes in, and what each is to lose comes out.
+// The scalar row of soft_scalar_constraint.rs: its update, its warm start, its solve and the test for strain. No row function sees a frame:
+// what the row's places hold goes in, and what each is to lose comes out.
 #![tactic(auto)]
 
 ghost use Rattle.std.specs.Prelude.{◌≡◌};
@@ -77,61 +77,40 @@ fn respond(p: Spring, s: Response, w: f32, e: f32) -> Response
     }
 }
 
-#[tactic(auto, unfolding(crate::specs::Row::update))]
-pub fn update(r: SoftScalarConstraint, held: Holds) -> SoftScalarConstraint
-    ensures { result ≡ spec.update r held }
-{
-    let pos = places::refreshed(held, r.pos);
-    let g = gradients::gradient::compute_gradients(r.kind, pos, r.grad, r.spring.rest);
-    let w = weight_of(r.count, g.grad, r.im);
-    SoftScalarConstraint {
-        pos,
-        grad: g.grad,
-        response: respond(r.spring, r.response, w, g.error),
-        ..r
+impl SoftScalarConstraint {
+    #[tactic(auto, unfolding(crate::specs::Row::update))]
+    pub fn update(self, held: Holds) -> SoftScalarConstraint
+        ensures { result ≡ spec.update self held }
+    {
+        let pos = places::refreshed(held, self.pos);
+        let g = gradients::gradient::compute_gradients(self.kind, pos, self.grad, self.spring.rest);
+        let w = weight_of(self.count, g.grad, self.im);
+        SoftScalarConstraint {
+            pos,
+            grad: g.grad,
+            response: respond(self.spring, self.response, w, g.error),
+            ..self
+        }
     }
-}
 
-#[tactic(auto, unfolding(crate::specs::Row::is_strained))]
-pub fn is_strained(r: SoftScalarConstraint, least: f32) -> bool
-    ensures { result ≡ spec.is_strained r least }
-{
-    (r.kind == ScalarKind::Distance)
-        & (r.spring.erp_inv_dt > 0.0)
-        & (r.spring.rest > 0.0)
-        & (abs(r.response.rhs / r.spring.erp_inv_dt) > least * r.spring.rest)
+    #[tactic(auto, unfolding(crate::specs::Row::is_strained))]
+    pub fn is_strained(self, least: f32) -> bool
+        ensures { result ≡ spec.is_strained self least }
+    {
+        (self.kind == ScalarKind::Distance)
+            & (self.spring.erp_inv_dt > 0.0)
+            & (self.spring.rest > 0.0)
+            & (abs(self.response.rhs / self.spring.erp_inv_dt) > least * self.spring.rest)
+    }
 }
 
 // ---- warm start and solve. The parts are public for who has no use for a whole row.
-
-fn with_impulse(r: SoftScalarConstraint, impulse: f32) -> SoftScalarConstraint
-    ensures { result ≡ spec.with_impulse r impulse }
-{
-    SoftScalarConstraint {
-        response: Response {
-            impulse,
-            ..r.response
-        },
-        ..r
-    }
-}
 
 #[tactic(auto, unfolding(crate::specs::Row::losses))]
 pub fn losses(grad: Four<Vec3>, im: Masses, impulse: f32) -> Four<Vec3>
     ensures { result ≡ spec.losses grad im impulse }
 {
     grad.zip(im, |g, w| g * w * impulse)
-}
-
-#[tactic(auto, unfolding(crate::specs::Row::warmstart))]
-pub fn warmstart(r: SoftScalarConstraint, coeff: f32) -> Solved<SoftScalarConstraint>
-    ensures { result ≡ spec.warmstart r coeff }
-{
-    let impulse = r.response.impulse * coeff;
-    Solved {
-        state: with_impulse(r, impulse),
-        loss: losses(r.grad, r.im, impulse),
-    }
 }
 
 // Before the bounds.
@@ -149,36 +128,62 @@ pub fn total_of(p: Spring, s: Response, dc: f32) -> f32
     clamp(sought_of(s, dc), p.lower, p.upper)
 }
 
-#[tactic(auto, unfolding(crate::specs::Row::solve))]
-pub fn solve(r: SoftScalarConstraint, vel: Holds) -> Solved<SoftScalarConstraint>
-    ensures { result ≡ spec.solve r vel }
-{
-    let total = total_of(r.spring, r.response, places::rate_of(r.grad, vel));
-    Solved {
-        state: with_impulse(r, total),
-        loss: losses(r.grad, r.im, total - r.response.impulse),
+impl SoftScalarConstraint {
+    fn with_impulse(self, impulse: f32) -> SoftScalarConstraint
+        ensures { result ≡ spec.with_impulse self impulse }
+    {
+        SoftScalarConstraint {
+            response: Response {
+                impulse,
+                ..self.response
+            },
+            ..self
+        }
     }
-}
 
-// ---- as `solve_color_constraint` calls them
-
-#[tactic(auto, unfolding(crate::specs::Row::with_peak))]
-pub fn with_peak(r: SoftScalarConstraint) -> SoftScalarConstraint
-    ensures { result ≡ spec.with_peak r }
-{
-    let peak_impulse = max(r.response.peak_impulse, r.response.impulse);
-    SoftScalarConstraint {
-        response: Response {
-            peak_impulse,
-            ..r.response
-        },
-        ..r
+    #[tactic(auto, unfolding(crate::specs::Row::warmstart))]
+    pub fn warmstart(self, coeff: f32) -> Solved<SoftScalarConstraint>
+        ensures { result ≡ spec.warmstart self coeff }
+    {
+        let impulse = self.response.impulse * coeff;
+        Solved {
+            state: self.with_impulse(impulse),
+            loss: losses(self.grad, self.im, impulse),
+        }
     }
-}
 
-#[tactic(auto, unfolding(crate::specs::Row::begin))]
-pub fn begin(r: SoftScalarConstraint, held: Holds) -> SoftScalarConstraint
-    ensures { result ≡ spec.begin r held }
-{
-    update(with_peak(r), held)
+    #[tactic(auto, unfolding(crate::specs::Row::solve))]
+    pub fn solve(self, vel: Holds) -> Solved<SoftScalarConstraint>
+        ensures { result ≡ spec.solve self vel }
+    {
+        let rate = places::rate_of(self.grad, vel);
+        let total = total_of(self.spring, self.response, rate);
+        Solved {
+            state: self.with_impulse(total),
+            loss: losses(self.grad, self.im, total - self.response.impulse),
+        }
+    }
+
+    // ---- as `solve_color_constraint` calls them
+
+    #[tactic(auto, unfolding(crate::specs::Row::with_peak))]
+    pub fn with_peak(self) -> SoftScalarConstraint
+        ensures { result ≡ spec.with_peak self }
+    {
+        let peak_impulse = max(self.response.peak_impulse, self.response.impulse);
+        SoftScalarConstraint {
+            response: Response {
+                peak_impulse,
+                ..self.response
+            },
+            ..self
+        }
+    }
+
+    #[tactic(auto, unfolding(crate::specs::Row::begin))]
+    pub fn begin(self, held: Holds) -> SoftScalarConstraint
+        ensures { result ≡ spec.begin self held }
+    {
+        self.with_peak().update(held)
+    }
 }

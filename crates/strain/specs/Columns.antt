@@ -50,3 +50,6 @@ module _ {f : ℕ → ℕ → Float} where
 
   pub columns_all : {m : List Float} {j : ℕ} → Columns f m j → 6 ≤ j → m ≡ from_fn f
   columns_all w h = filled_all w.filled (omega arith)
+
+-- what the goals of such a loop are proved by
+pub ruleset by_columns = (columns_none, columns_more, columns_all)

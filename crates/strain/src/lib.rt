@@ -110,6 +110,7 @@ fn column(m: &[f32; 36], j: usize) -> [f32; 6]
     from_fn(|i| m[j * 6 + i])
 }
 
+#[tactic(auto, using(loops::specs::Loops::counted))]
 pub fn set_column(m: &mut [f32; 36], j: usize, c: &[f32; 6])
     requires { j < 6 }
     ensures { m.new ≡ columns.set_column m.old j c.now }
@@ -149,6 +150,7 @@ pub fn ger(factor: f32, w: &[f32; 6], m: &[f32; 36]) -> [f32; 36]
 
 // ---- whole matrices
 
+#[tactic(auto, using(loops::specs::Loops::counted), unfolding(crate::specs::Matrix::from_diagonal))]
 pub fn from_diagonal(d: &[f32; 6]) -> [f32; 36]
     ensures { result ≡ matrix.from_diagonal d.now }
 {

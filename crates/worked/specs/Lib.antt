@@ -1,3 +1,3 @@
--- Document 01's worked examples. Assumes nothing.
+-- The worked examples. Assumes nothing.
 pub mod Sheets
 pub mod Table

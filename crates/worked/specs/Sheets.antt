@@ -1,4 +1,4 @@
--- The frames of document 01's worked examples, as bytes. Definitions only. Assumes nothing.
+-- The frames of the worked examples, as bytes. Definitions only. Assumes nothing.
 use Rattle.std.specs.Prelude.{ℕ, List, ◌++◌, replicate}
 use Rattle.little_endian.specs.Bytes.{bytes2, bytes4}
 

@@ -1,4 +1,4 @@
--- WORKED AT THE PRESS: document 01's examples marked P, as one table in the paper's order. Assumes nothing.
+-- WORKED AT THE PRESS: the worked examples of the arithmetic, as one table: the frame's head, the root, the distance row, `inv`, the eigenvalues, the energy and two rows that share a point. Assumes nothing.
 use Rattle.std.specs.Prelude.{ℕ, List, [], ◌∷◌, ◌++◌, get_or, Float}
 use Rattle.std.specs.Float.Ieee.{neg}
 use Rattle.loops.specs.Worked.{Row, ◌gives◌}

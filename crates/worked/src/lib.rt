@@ -1,4 +1,4 @@
-// Document 01's worked examples stand in specs/ as one table, and hold by proofs/. There is no code to prove here, but a crate has at least one function.
+// The worked examples of the arithmetic stand in specs/ as one table, and hold by proofs/. There is no code to prove here, but a crate has at least one function.
 #![tactic(auto)]
 
 ghost use Rattle.std.specs.Prelude.{◌≡◌};

@@ -1,11 +1,7 @@
-use Prim.Native.Nat.{◌-◌}
-use mathlib.Core.Path.{◌≡◌}
+use Rattle.std.specs.Prelude.{◌≡◌, ◌-◌}
 use Rattle.loops.specs.Loops.{Ran}
 use Rattle.inverse.specs.Inverse.{backward_turn}
 use Rattle.inverse.proofs.backward_at.Given as goal
 
 abbrev pub invariant-loop-u : goal.invariant-loop-u
 invariant-loop-u l = (Ran (5 - l.i) (backward_turn l.m l.x l.i) l.initial.acc l.u l.acc) × (l.u-end ≡ 5 - l.i)
-
-abbrev pub decreases-loop-u : goal.decreases-loop-u
-decreases-loop-u l = 5 - l.i - l.u

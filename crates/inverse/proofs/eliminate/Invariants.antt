@@ -1,10 +1,7 @@
-use Prim.Native.Nat.{◌+◌, ◌-◌}
+use Rattle.std.specs.Prelude.{◌+◌}
 use Rattle.loops.specs.Between.{Went}
 use Rattle.inverse.specs.Elimination.{reduced}
 use Rattle.inverse.proofs.eliminate.Given as goal
 
 abbrev pub invariant-loop-k : goal.invariant-loop-k
 invariant-loop-k l = Went (l.j + 1) 6 (reduced l.j) l.initial.m l.k l.m
-
-abbrev pub decreases-loop-k : goal.decreases-loop-k
-decreases-loop-k l = 6 - l.k

@@ -1,10 +1,6 @@
-use Prim.Native.Nat.{◌-◌}
 use Rattle.loops.specs.Loops.{Ran}
 use Rattle.inverse.specs.Inverse.{forward_turn}
 use Rattle.inverse.proofs.forward_at.Given as goal
 
 abbrev pub invariant-loop-k : goal.invariant-loop-k
 invariant-loop-k l = Ran l.i (forward_turn l.m l.x l.i) l.initial.acc l.k l.acc
-
-abbrev pub decreases-loop-k : goal.decreases-loop-k
-decreases-loop-k l = l.i - l.k

@@ -1,20 +1,18 @@
 -- `real::rem_turn` meets its contract, by the number's size. Assumes nothing.
-use mathlib.Core.Path.{refl}
-use mathlib.Core.Bool.{true, false, not}
-use borrow.Author.Tests.{le-leb, lt-leb, ne_eqb}
+use Rattle.std.specs.Prelude.{refl, true, false}
+use Rattle.std.proofs.Common.{sym, ◌∙◌, le-leb, ne_eqb}
+use Rattle.std.proofs.lemmas.Bool.{lt-leb}
+use Rattle.std.specs.Float.{binary32}
+use Rattle.std.specs.Float.Ieee.{fits, neg, of_bits, rem}
 use denote.Floats.{passes}
-use lib.Ieee.{binary32, fits, is_nan, neg, of_bits, rem}
-use Rattle.root.specs.Floats.{is_nan_lem, is_number}
+use Rattle.root.specs.Floats.{differs, is_nan_lem}
 use Rattle.real.specs.SinCos.{rem_turn}
 use Rattle.real.proofs.Turn.{not_finite, stays, made}
 use Rattle.real.proofs.rem_turn.Goals as goal
 
-pub returns-then-x : goal.returns-then-x
+pub returns-then-is_nan : goal.returns-then-is_nan
 unfolding rem_turn rem
-returns-then-x c = rw (is_nan_lem c.args.x c.if-x.true) refl
-
-pub float_to_bits-b : goal.float_to_bits-b
-float_to_bits-b c = passes (not (is_nan c.args.x)) (rw (is_number c.args.x c.if-x.false) refl)
+returns-then-is_nan c = rw (is_nan_lem c.args.x (differs c.args.x ∙ sym c.is_nan.ensures.value ∙ c.if-is_nan.true)) refl
 
 pub returns-then-power-eq255 : goal.returns-then-power-eq255
 unfolding rem_turn

@@ -1,20 +1,18 @@
--- `replay_frames::replay` meets its contract. One entry a turn. Assumes nothing.
-use borrow.Author.Rules.{rules}
-use Rattle.replay_frames.specs.Entries.{none, counts_right, counts_wrong}
+-- One entry is tried a turn. Assumes nothing.
+use Rattle.std.proofs.Common.{rules, arith}
+use Rattle.replay.specs.Tallies.{miss_few}
+use Rattle.replay_frames.specs.Entries.{none, counted}
 use Rattle.replay_frames.proofs.replay.Goals as goal
 
-pub loop-tried-init : goal.loop-tried-init
-loop-tried-init c = (none, search rules, search rules)
+pub loop-entry-init : goal.loop-entry-init
+loop-entry-init c = record { counted = none; few = search rules; passed = search rules }
 
-pub loop-tried-preserved-then-got-eq1 : goal.loop-tried-preserved-then-got-eq1
-loop-tried-preserved-then-got-eq1 c = (counts_wrong c.loop-tried.invariant.0 _ c.one-got.ensures c.if-got-eq1.true, search rules, search rules)
-
-pub loop-tried-preserved : goal.loop-tried-preserved
-loop-tried-preserved c =
-    (counts_right c.loop-tried.invariant.0 _ c.one-got.ensures c.if-got-eq2.false c.if-got-eq1.false, search rules, search rules)
-
-pub returns-after-loop-tried : goal.returns-after-loop-tried
-returns-after-loop-tried c = c.loop-tried.invariant.0
-
-pub returns-then-got-eq2 : goal.returns-then-got-eq2
-returns-then-got-eq2 c = c.loop-tried.invariant.0
+pub loop-entry-preserved : goal.loop-entry-preserved
+loop-entry-preserved c =
+    let so_far = c.loop-entry.invariant in
+    let next = c.count.ensures in
+    record {
+      counted = counted c.in-Some.entry.now so_far.counted c.as_stored.ensures next.records next.differ;
+      few = omega (arith, so_far.few, miss_few c.as_stored.result, next.records, next.differ);
+      passed = omega (arith, so_far.passed, next.records, c.in-Some.ensures.cases.2);
+    }

@@ -1,9 +1,13 @@
-use Prim.Native.Nat.{◌≤◌, ◌-◌}
+use Rattle.std.proofs.Common.{◌≡◌, ◌+◌, ◌*◌, ◌≤◌, length}
 use Rattle.replay_frames.specs.Entries.{Counted}
 use Rattle.replay_frames.proofs.replay.Given as goal
 
-abbrev pub invariant-loop-tried : goal.invariant-loop-tried
-invariant-loop-tried l = Counted l.base l.tried l.wrong × (l.tried ≤ 65536) × (l.wrong ≤ l.tried)
+abbrev pub invariant-loop-entry : goal.invariant-loop-entry
+invariant-loop-entry l = record {
+  counted : Counted l.base l.tally.records l.tally.differ;
+  few : l.tally.differ ≤ l.tally.records;
+  passed : 22 * l.tally.records + length l.rest ≡ length l.entries;
+}
 
-abbrev pub decreases-loop-tried : goal.decreases-loop-tried
-decreases-loop-tried l = 65536 - l.tried
+abbrev pub decreases-loop-entry : goal.decreases-loop-entry
+decreases-loop-entry l = length l.rest

@@ -1,13 +1,14 @@
--- `replay_runs::as_stored` meets its contract. Its calls are the definition's. Assumes nothing.
-use mathlib.Core.Path.{refl}
-use Rattle.replay_runs.specs.Entries.{as_stored}
+-- Its calls are the definition's. Assumes nothing.
+use Rattle.std.proofs.Common.{refl}
+use Rattle.replay_runs.specs.Entries.{as_stored, same_bytes}
 use Rattle.replay_runs.proofs.as_stored.Goals as goal
 
 pub returns : goal.returns
 unfolding as_stored
 returns c =
     rw (
-      c.equal.ensures,
+      c.eq.ensures,
+      same_bytes,
       c.is-2.ensures,
       c.is.ensures,
       c.run-returned.ensures.0,

@@ -1,12 +1,13 @@
-use Prim.Native.Nat.{◌≤◌, ◌-◌}
-use mathlib.Core.Path.{◌≡◌}
-use lib.ListN.{length}
+use Rattle.std.proofs.Common.{◌+◌, ◌*◌, ◌≤◌, length}
 use Rattle.replay_runs.specs.Entries.{Counted}
 use Rattle.replay_runs.proofs.replay.Given as goal
 
-abbrev pub invariant-loop-tried : goal.invariant-loop-tried
-invariant-loop-tried l =
-    Counted l.tried l.wrong × (l.tried ≤ 65536) × (l.wrong ≤ l.tried) × (length l.frame ≡ length l.initial.frame) × (length l.after ≡ length l.initial.after)
+abbrev pub invariant-loop-entry : goal.invariant-loop-entry
+invariant-loop-entry l = record {
+  counted : Counted l.tally.records l.tally.differ;
+  few : l.tally.differ ≤ l.tally.records;
+  passed : 12 * l.tally.records + length l.rest ≤ length l.bytes;
+}
 
-abbrev pub decreases-loop-tried : goal.decreases-loop-tried
-decreases-loop-tried l = 65536 - l.tried
+abbrev pub decreases-loop-entry : goal.decreases-loop-entry
+decreases-loop-entry l = length l.rest

@@ -1,10 +1,6 @@
-use Rattle.std.specs.Prelude.{◌-◌}
 use Rattle.strain.specs.Columns.{Columns}
 use Rattle.strain.specs.Matrix.{ger_at}
 use Rattle.strain.proofs.ger.Given as goal
 
 abbrev pub invariant-loop-j : goal.invariant-loop-j
 invariant-loop-j l = Columns (ger_at l.factor l.w l.m) l.r l.j
-
-abbrev pub decreases-loop-j : goal.decreases-loop-j
-decreases-loop-j l = 6 - l.j

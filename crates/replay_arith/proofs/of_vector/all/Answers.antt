@@ -1,17 +1,18 @@
 -- `replay_arith::of_vector::all` meets its contract. One file after another. Assumes nothing.
+use Rattle.std.proofs.Common.{rules}
 use Rattle.replay.specs.Tallies.{one, none}
 use Rattle.replay_arith.proofs.of_vector.all.Goals as goal
 
 pub returns : goal.returns
 returns g c =
-    one c.replay_file-t.ensures
-    (one c.replay_file-t-2.ensures
-    (one c.replay_file-t-3.ensures
-    (one c.replay_file-t-4.ensures
-    (one c.replay_file-t-5.ensures
-    (one c.replay_file-t-6.ensures
-    (one c.replay_file-t-7.ensures
-    (one c.replay_file-t-8.ensures
-    (one c.replay_file-t-9.ensures
-    (one c.replay_file.ensures
+    one (c.file.ensures _ (λ r b h. search rules))
+    (one (c.file-2.ensures _ (λ r b h. search rules))
+    (one (c.file-3.ensures _ (λ r b h. search rules))
+    (one (c.file-4.ensures _ (λ r b h. search rules))
+    (one (c.file-5.ensures _ (λ r b h. search rules))
+    (one (c.file-6.ensures _ (λ r b h. search rules))
+    (one (c.file-7.ensures _ (λ r b h. search rules))
+    (one (c.file-8.ensures _ (λ r b h. search rules))
+    (one (c.file-9.ensures _ (λ r b h. search rules))
+    (one (c.file-10.ensures _ (λ r b h. search rules))
     none)))))))))

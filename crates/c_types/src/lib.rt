@@ -1,0 +1,43 @@
+// Structs of the C interface that stand for a generic type, which C has not: with the fields of that type, in its order.
+#![tactic(auto)]
+
+ghost use Rattle.std.specs.Prelude.{◌≡◌};
+ghost use Rattle.c_types.specs.FourVectors.{as_four};
+
+use vector::{Four, Vec3};
+
+// A vector for each of the four particles of a row, particle 0 first.
+#[repr(C)]
+#[derive(Clone, Copy)]
+pub struct FourVectors {
+    pub a: Vec3,
+    pub b: Vec3,
+    pub c: Vec3,
+    pub d: Vec3,
+}
+
+impl From<FourVectors> for Four<Vec3> {
+    ghost from_gives = { λ x r. r ≡ as_four x };
+
+    fn from(x: FourVectors) -> Four<Vec3> {
+        Four {
+            a: x.a,
+            b: x.b,
+            c: x.c,
+            d: x.d,
+        }
+    }
+}
+
+impl From<Four<Vec3>> for FourVectors {
+    ghost from_gives = { λ x r. as_four r ≡ x };
+
+    fn from(x: Four<Vec3>) -> FourVectors {
+        FourVectors {
+            a: x.a,
+            b: x.b,
+            c: x.c,
+            d: x.d,
+        }
+    }
+}

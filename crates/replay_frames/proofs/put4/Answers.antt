@@ -1,9 +1,0 @@
--- `replay_frames::put4` meets its contract. By whether the bytes fit. Assumes nothing.
-use Rattle.replay_frames.specs.Entries.{four_fit, four_do_not}
-use Rattle.replay_frames.proofs.put4.Goals as goal
-
-pub returns-then-k-frame : goal.returns-then-k-frame
-returns-then-k-frame c = four_fit _ _ _ c.if-k-frame.true c.put_u32.ensures
-
-pub returns-else-k-frame : goal.returns-else-k-frame
-returns-else-k-frame c = four_do_not _ _ _ c.if-k-frame.false
