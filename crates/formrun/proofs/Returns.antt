@@ -1,29 +1,24 @@
--- What each return of `answer` leaves is the output. Assumes nothing.
-use mathlib.Core.Path.{◌≡◌}
-use mathlib.Core.List.{List, ◌++◌}
+-- What each return of `answer` writes is the output. Assumes nothing.
+use mathlib.Core.Path.{◌≡◌, refl}
+use mathlib.Core.List.{List}
 use Prim.Native.Nat.{ℕ, ◌≤◌, ◌<◌}
-use lib.ListN.{length, take, drop}
-use lib.Seq.{length-take-le, take_at}
+use lib.ListN.{length}
 use borrow.Author.Tests.{lt-ltb, le-ltb, eq-eqb, ne_eqb}
 use Rattle.records.specs.declared.Answer.{Answer}
 use Rattle.frame.specs.Check.{check_of}
 use Rattle.stored.specs.Run.{leaves}
-use Rattle.formrun.specs.Output.{output_of, too_long, refusal, Added}
+use Rattle.formrun.specs.Output.{output_of, too_long, refusal}
 
-module _ (s : List ℕ) (len : ℕ) where
-  pub longer : (r : ℕ) (s' : List ℕ) → len ≤ length s → 65536 < len → Added too_long 0 s r s' → take r s' ≡ output_of (take len s)
+module _ (s : List ℕ) where
+  pub longer : 65536 < length s → too_long ≡ output_of s
   unfolding output_of
-  longer r s' fits long h = rw (length-take-le len s fits, lt-ltb 65536 len long) h.holds
+  longer long = rw (lt-ltb 65536 (length s) long) refl
 
-  module _ (a : Answer) (p : List ℕ) where
-    pub accepted : len ≤ length s → len ≤ 65536 → a ≡ check_of (take len s) → p ≡ leaves (take len s) → length p ≡ len → a.number ≡ 0
-        → take len (p ++ drop len s) ≡ output_of (take len s)
+  module _ (a : Answer) where
+    pub accepted : (p : List ℕ) → length s ≤ 65536 → a ≡ check_of s → p ≡ leaves s → a.number ≡ 0 → p ≡ output_of s
     unfolding output_of
-    accepted fits short e l same ok =
-        rw (length-take-le len s fits, le-ltb 65536 len short, ← e, eq-eqb a.number 0 ok, ← l) (take_at p (drop len s) len same)
+    accepted p short e l ok = rw (le-ltb 65536 (length s) short, ← e, eq-eqb a.number 0 ok) l
 
-    pub refused : (r : ℕ) (s' : List ℕ) → len ≤ length s → len ≤ 65536 → a ≡ check_of (take len s) → (a.number ≡ 0 → ⊥) → Added (refusal a.number a.place) 0 p r s'
-        → take r s' ≡ output_of (take len s)
+    pub refused : length s ≤ 65536 → a ≡ check_of s → (a.number ≡ 0 → ⊥) → refusal a.number a.place ≡ output_of s
     unfolding output_of
-    refused r s' fits short e bad h =
-        rw (length-take-le len s fits, le-ltb 65536 len short, ← e, ne_eqb a.number 0 bad) h.holds
+    refused short e bad = rw (le-ltb 65536 (length s) short, ← e, ne_eqb a.number 0 bad) refl

@@ -1,5 +1,5 @@
 -- WHAT FORMRUN WRITES for the bytes that it read. Assumes nothing.
-use Rattle.std.specs.Prelude.{ℕ, zero, suc, ◌+◌, ◌/◌, ◌%◌, ◌≤◌, ◌≡◌, cond, List, [], ◌∷◌, ◌++◌, length, take, ltb, eqb}
+use Rattle.std.specs.Prelude.{ℕ, zero, suc, ◌+◌, ◌/◌, ◌%◌, cond, List, [], ◌∷◌, ◌++◌, length, ltb, eqb}
 use Rattle.frame.specs.Check.{check_of}
 use Rattle.stored.specs.Run.{leaves}
 
@@ -32,9 +32,3 @@ refusal number place = refused_word ++ (decimal number ++ (at_word ++ (decimal p
 -- more than 65,536 bytes are too long for a frame; a frame that check accepts is written as the run leaves it; one that it refuses gives the line
 unfoldable pub output_of : List ℕ → List ℕ
 output_of s = cond (ltb 65536 (length s)) too_long (cond (eqb (check_of s).number 0) (leaves s) (refusal (check_of s).number (check_of s).place))
-
--- text stands in s' behind the first `at` bytes of s, and ends at r
-pub record Added (text : List ℕ) (at : ℕ) (s : List ℕ) (r : ℕ) (s' : List ℕ) : Type 0 where
-  pub ends : r ≡ at + length text
-  pub within : r ≤ length s'
-  pub holds : take r s' ≡ take at s ++ text

@@ -1,4 +1,4 @@
--- The inverse of a 6x6 matrix by elimination with partial pivoting: document 01's "Six-row `try_inverse`", sentence by sentence. Definitions only. Assumes nothing.
+-- The inverse of a 6x6 matrix by elimination with partial pivoting; the words in quotation marks are the rule, sentence by sentence. Definitions only. Assumes nothing.
 use Rattle.std.specs.Prelude.{ℕ, ◌+◌, ◌-◌, Bool, true, false, cond, List, [], ◌∷◌, get_or, set, replicate, ltb, eqb, Float}
 use Rattle.std.specs.Float.Ieee.{lt, eq}
 use Rattle.loops.specs.Fill.{tabulate}

@@ -1,9 +1,9 @@
 -- The search for a pivot, and the exchange of two rows, as loops. Assumes nothing.
-use Prim.Native.Nat.{ℕ, ◌+◌, ◌*◌, ◌/◌, ◌%◌, ◌<◌, ◌≤◌}
+use Rattle.std.specs.Prelude.{ℕ, ◌+◌, ◌*◌, ◌/◌, ◌%◌, ◌<◌, ◌≤◌}
 use Rattle.std.specs.Prelude.{◌≡◌, Bool, true, false, cond, List, set, length}
 use Rattle.std.proofs.Math.Path.{refl, sym}
 use Rattle.std.proofs.Common.{◌∙◌, inl, inr, le_refl, length-set, get_or-set_same, get_or-set_other, eq-eqb, ne_eqb}
-use native.Mathlib.Omega.{arith}
+use Rattle.std.proofs.Common.{arith}
 use Rattle.std.proofs.Math.Seq.{ext_get_or}
 use Rattle.std.specs.Float.Ieee.{Float, nan, lt}
 use Rattle.loops.specs.Fill.{tabulate, length-tab_from, get_d_tabulate}

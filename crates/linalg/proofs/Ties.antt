@@ -1,8 +1,8 @@
 -- The sweeps stop where what is off the diagonal is at the limit itself. Assumes nothing.
-use mathlib.Core.Path.{◌≡◌, refl, ap, ◌∙◌}
-use mathlib.Core.Bool.{Bool, true, false, ◌||◌}
-use mathlib.Core.List.{[], ◌∷◌}
-use lib.Ieee.{Float, binary32, of_bits, add, mul, lt, le, eq}
+use Rattle.std.specs.Prelude.{◌≡◌, refl, Bool, true, false, ◌||◌, [], ◌∷◌, Float}
+use Rattle.std.proofs.Common.{ap, ◌∙◌}
+use Rattle.std.specs.Float.{binary32}
+use Rattle.std.specs.Float.Ieee.{of_bits, add, mul, lt, le, eq}
 use Rattle.real.specs.Float.{◌⊗◌, f0, f1}
 use Rattle.linalg.specs.Eigen.{Rows, off, diag, tolerance, settled}
 

@@ -56,6 +56,7 @@ pub(crate) fn rotation_at<const P: usize, const Q: usize>(a: Rows) -> Option<Rot
 }
 
 // A J, row after row.
+#[tactic(auto, using(loops::specs::Loops::counted), unfolding(crate::specs::Eigen::rotate_columns))]
 fn rotate_columns<const P: usize, const Q: usize>(m: Rows, g: Rotation) -> Rows
     requires { (P < 3) × (Q < 3) }
     ensures { result ≡ spec.rotate_columns P Q g.c g.s m }
@@ -68,6 +69,7 @@ fn rotate_columns<const P: usize, const Q: usize>(m: Rows, g: Rotation) -> Rows
 }
 
 // Jᵀ A, column after column.
+#[tactic(auto, using(loops::specs::Loops::counted), unfolding(crate::specs::Eigen::rotate_rows))]
 fn rotate_rows<const P: usize, const Q: usize>(m: Rows, g: Rotation) -> Rows
     requires { (P < 3) × (Q < 3) }
     ensures { result ≡ spec.rotate_rows P Q g.c g.s m }

@@ -28,11 +28,16 @@ held_or None v = v
 unfoldable pub refreshed : Holds → Four Vec3 → Four Vec3
 refreshed h pos = record { a = held_or h.a pos.a; b = held_or h.b pos.b; c = held_or h.c pos.c; d = held_or h.d pos.d }
 
--- r and g·v, where the place is named
-abbrev pub add_rate : Float → Vec3 → Held → Float
-add_rate r g (Some v) = r ⊕ dot g v
-add_rate r g None = r
+-- g·v, where the place is named
+abbrev pub rate_at : Vec3 → Held → Option Float
+rate_at g (Some v) = Some (dot g v)
+rate_at g None = None
+
+-- the sum goes on where there is a rate
+abbrev pub plus : Float → Option Float → Float
+plus r (Some x) = r ⊕ x
+plus r None = r
 
 -- Σ g_p·v_p over the places that are named, from zero
 unfoldable pub rate_of : Four Vec3 → Holds → Float
-rate_of g vel = add_rate (add_rate (add_rate (add_rate f0 g.a vel.a) g.b vel.b) g.c vel.c) g.d vel.d
+rate_of g vel = plus (plus (plus (plus f0 (rate_at g.a vel.a)) (rate_at g.b vel.b)) (rate_at g.c vel.c)) (rate_at g.d vel.d)

@@ -30,23 +30,28 @@ pub fn refreshed(h: Holds, pos: Four<Vec3>) -> Four<Vec3>
     h.zip(pos, |held, old| held.unwrap_or(old))
 }
 
-// The sum goes on where the place is named.
-fn add_rate(rate: f32, grad: Vec3, vel: Option<Vec3>) -> f32
-    ensures { result ≡ spec.add_rate rate grad vel }
+fn rate_at(grad: Vec3, vel: Option<Vec3>) -> Option<f32>
+    ensures { result ≡ spec.rate_at grad vel }
 {
-    match vel {
-        Some(v) => rate + grad.dot(v),
-        None => rate,
+    vel.map(|v| grad.dot(v))
+}
+
+// The sum goes on where there is a rate.
+fn plus(sum: f32, rate: Option<f32>) -> f32
+    ensures { result ≡ spec.plus sum rate }
+{
+    match rate {
+        Some(r) => sum + r,
+        None => sum,
     }
 }
 
-// The rate at which the velocities of the named places change what has these gradients.
+// The rate at which the velocities of the named places change what has these gradients. The products come first, which leaves no branch
+// around them.
 #[tactic(auto, unfolding(crate::specs::Places::rate_of))]
 pub fn rate_of(grad: Four<Vec3>, vel: Holds) -> f32
     ensures { result ≡ spec.rate_of grad vel }
 {
-    let a = add_rate(0.0, grad.a, vel.a);
-    let b = add_rate(a, grad.b, vel.b);
-    let c = add_rate(b, grad.c, vel.c);
-    add_rate(c, grad.d, vel.d)
+    let rates = grad.zip(vel, |g, v| rate_at(g, v));
+    plus(plus(plus(plus(0.0, rates.a), rates.b), rates.c), rates.d)
 }

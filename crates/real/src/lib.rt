@@ -21,6 +21,7 @@ pub fn is_nan(x: f32) -> bool
 }
 
 // The greater of x and 0 - x, which is exact, and +0 for a zero of either sign. The compiler makes of it a subtraction and a maximum.
+#[tactic(auto, using(crate::specs::Sign::by_subtraction))]
 pub fn abs(x: f32) -> f32
     ensures { result ≡ spec.abs x }
 {
@@ -78,6 +79,7 @@ pub struct SinCos {
 }
 
 // What is left of n·2^k when 13176795 is taken off as often as it goes, by one doubling after the other.
+#[tactic(auto, using(crate::proofs::Turn::once_more))]
 fn left_of(n: u32, k: u32) -> u32
     ensures { result ≡ n * 2 ^ k % 13176795 }
 {
@@ -133,6 +135,7 @@ fn doubled(a: SinCos) -> SinCos
 }
 
 // Of w / 2.
+#[tactic(auto, using(loops::specs::Loops::counted), unfolding(crate::specs::SinCos::sin_cos))]
 pub fn sin_cos(w: f32) -> SinCos
     ensures { result ≡ sine.sin_cos w }
 {

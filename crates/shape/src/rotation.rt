@@ -53,6 +53,7 @@ fn turned(o: Vec3, w: f32, q: Quat) -> Quat
     (step(o, w) * q).normalise()
 }
 
+#[tactic(auto, using(loops::specs::Loops::stopping), unfolding(crate::specs::Rotation::extract_rotation))]
 pub fn extract_rotation(a: Mat3, warm: Quat) -> Quat
     ensures { result ≡ spec.extract_rotation a warm }
 {

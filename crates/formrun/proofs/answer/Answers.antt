@@ -1,36 +1,19 @@
--- `formrun::answer` meets its contract, by its three returns. Assumes nothing.
-use native.Mathlib.Omega.{arith}
-use mathlib.Core.Path.{◌≡◌, sym, ◌∙◌}
-use mathlib.Core.List.{◌++◌}
-use lib.ListN.{length, take, drop, length-append}
-use lib.Seq.{length-take-le}
+-- By its three returns. Assumes nothing.
+use Rattle.std.proofs.Common.{arith}
 use Rattle.formrun.proofs.Returns.{longer, accepted, refused}
 use Rattle.formrun.proofs.answer.Goals as goal
 
-pub returns-then-len-gt-MOST : goal.returns-then-len-gt-MOST
-returns-then-len-gt-MOST c =
-    let a = c.args in
-    let p = c.put in
-    (p.ensures.within, longer a.buf.now a.len p.result p.new.buf c.requires.0 (omega (arith, c.if-len-gt-MOST.true)) p.ensures)
-
-pub slice_bounds-run-end-2 : goal.slice_bounds-run-end-2
-slice_bounds-run-end-2 c = sym (length-take-le c.args.len c.args.buf.now c.requires.0)
+pub returns-then-frame-gt-MOST : goal.returns-then-frame-gt-MOST
+returns-then-frame-gt-MOST g c = rw (← longer c.args.frame.now (omega (arith, c.if-frame-gt-MOST.true))) c.write_all.ensures.bytes
 
 pub returns-then-a-eq0 : goal.returns-then-a-eq0
-returns-then-a-eq0 c =
-    let a = c.args in
+returns-then-a-eq0 g c =
+    let s = c.args.frame.now in
     let q = c.run-a in
-    let same : length q.new.s ≡ length (take a.len a.buf.now) = q.auto.s in
-    let len : length q.new.s ≡ a.len = same ∙ length-take-le a.len a.buf.now c.requires.0 in (
-      omega (arith, length-append q.new.s (drop a.len a.buf.now)),
-      accepted a.buf.now a.len q.result q.new.s c.requires.0 (omega (arith, c.if-len-gt-MOST.false)) q.ensures.0 q.ensures.1 len c.if-a-eq0.true,
-    )
+    rw (← accepted s q.result q.new.s (omega (arith, c.if-frame-gt-MOST.false)) q.ensures.0 q.ensures.1 c.if-a-eq0.true) c.write_all-then-a-eq0.ensures.bytes
 
-pub returns : goal.returns
-returns c =
-    let a = c.args in
+pub returns-else-a-eq0 : goal.returns-else-a-eq0
+returns-else-a-eq0 g c =
+    let s = c.args.frame.now in
     let q = c.run-a in
-    let p = c.put_refusal in (
-      p.ensures.within,
-      refused a.buf.now a.len q.result (q.new.s ++ drop a.len a.buf.now) p.result p.new.buf c.requires.0 (omega (arith, c.if-len-gt-MOST.false)) q.ensures.0 c.if-a-eq0.false p.ensures,
-    )
+    rw (← refused s q.result (omega (arith, c.if-frame-gt-MOST.false)) q.ensures.0 c.if-a-eq0.false, ← c.from.ensures) c.refuse.ensures
