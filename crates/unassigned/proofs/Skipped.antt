@@ -11,10 +11,11 @@ use lib.ListN.{get_or}
 use borrow.Author.Tests.{eq-eqb}
 use Rattle.little_endian.specs.Bytes.{le16}
 use Rattle.relisting.specs.Steps.{fetch}
-use Rattle.std.specs.Prelude.{is_some}
+use Rattle.std.specs.Prelude.{is_some, Some, None}
+use Rattle.std.proofs.Math.Option.{Option}
 use Rattle.places.specs.Places.{Ids, Holds}
 use Rattle.records.specs.Layout as at
-use Rattle.rows.specs.Row.{nobody, places, holds_of}
+use Rattle.rows.specs.Row.{nobody, places, value_of, held_at, holds_of}
 use Rattle.stored.specs.Phases.{names_at}
 use Rattle.stored.specs.Points.{Points, position}
 use Rattle.stored.specs.PhaseLaws.{names_on, names_are, positions_on}
@@ -38,16 +39,16 @@ pub record Skips (held : Holds) (p : ℕ) : Type 0 where
   pub c : p ≡ 2 → is_some held.c ≡ false
   pub d : p ≡ 3 → is_some held.d ≡ false
 
-not_named : (id : ℕ) (v : Vec3) → id ≡ nobody → is_some (held_by id v) ≡ false
-not_named id v e = ap (λ (t : Bool). is_some (cond t None (Some v))) (eq-eqb id nobody e)
+not_named : (id : ℕ) (p : Option (List ℕ)) → id ≡ nobody → is_some (held_at position id p) ≡ false
+not_named id p e = ap (λ (t : Bool). is_some (cond t None (Some (value_of position p)))) (eq-eqb id nobody e)
 
 skips_by : (i : Ids) (ps : Points) (is : List ℕ) → is ≡ places i → (p : ℕ) → get_or (places i) p 0 ≡ nobody → Skips (holds_of position is (fetch is ps)) p
 unfolding holds_of
 skips_by i ps is e p h = subst (λ (l : List ℕ). Skips (holds_of position l (fetch l ps)) p) (sym e) (record {
-  a = λ z. not_named i.a (subst (λ (q : ℕ). get_or (places i) q 0 ≡ nobody) z h);
-  b = λ z. not_named i.b (subst (λ (q : ℕ). get_or (places i) q 0 ≡ nobody) z h);
-  c = λ z. not_named i.c (subst (λ (q : ℕ). get_or (places i) q 0 ≡ nobody) z h);
-  d = λ z. not_named i.d (subst (λ (q : ℕ). get_or (places i) q 0 ≡ nobody) z h);
+  a = λ z. not_named i.a _ (subst (λ (q : ℕ). get_or (places i) q 0 ≡ nobody) z h);
+  b = λ z. not_named i.b _ (subst (λ (q : ℕ). get_or (places i) q 0 ≡ nobody) z h);
+  c = λ z. not_named i.c _ (subst (λ (q : ℕ). get_or (places i) q 0 ≡ nobody) z h);
+  d = λ z. not_named i.d _ (subst (λ (q : ℕ). get_or (places i) q 0 ≡ nobody) z h);
 })
 
 pub skips : (b : List ℕ) (ps : Points) (p : ℕ) → get_or (places (names_at b)) p 0 ≡ nobody → Skips (positions_on b ps) p
