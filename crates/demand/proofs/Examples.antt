@@ -17,9 +17,11 @@ use Rattle.acceptance.specs.Whole.{row, colour_of}
 use Rattle.frame.specs.Check.{extra, frame_tests, check_of}
 use Rattle.real.specs.Real as real
 use Rattle.vector.specs.Vector as v
+use Rattle.places.specs.Places.{rate_of}
 use Rattle.scalar.specs.Row as s
 use Rattle.vector.specs.Matrix.{transpose, mul_vec}
-use Rattle.strain.specs.Six.{add6, sub6, scale6, component_mul6, dot6}
+use Rattle.strain.specs.Parts as parts
+use Rattle.strain.specs.Six.{dot6}
 use Rattle.strain.specs.Matrix as six
 use Rattle.cell.specs.Strain.{strain_tensor, strain_rows_of, outer_sum}
 use Rattle.cell.specs.Cell.{strain_rates, local_velocities, volume_losses, volume_loss}
@@ -47,12 +49,12 @@ accepted_both = (refl, refl)
 
 -- what the sweeps leave in the points of A₀, computed: each row has moved the points that it names
 swept₀ : (swept A₀).1 ≡ point_of seven_eighths ∷ point_of half ∷ point_of three_quarters ∷ point_of seven_eighths ∷ []
-unfolding swept records end_of flatten le16 le32 step.solve solve_of s.solve row_of constraint_of scalar_of spring_at response_at four_at vec3_at masses_at ids_at holds_of row-rules.key_of names_of put_solve solve_constraint velocity lose put_vec3 v.sub v.scale v.dot v.zero_vector s.total_of s.sought_of s.rate_of s.losses real.clamp is_nan to_bits of_bits ieee.of_fields ieee.lt ieee.le ieee.eq ieee.add ieee.sub ieee.neg ieee.mul ieee.div ieee.sum ieee.round ieee.units ieee.odd ieee.span ieee.climb ieee.size coro.solve co.solve_corotational co.solve_rows co.strain_step co.residual strain_rates local_velocities co.volume_step co.volume_rate co.applied volume_losses volume_loss strain_tensor strain_rows_of outer_sum transpose mul_vec add6 sub6 scale6 component_mul6 dot6 six.mat_vec six.row v.add corotational_of cell_of pose_of impulses_of compliance_of springs_of volume_of mat3_at quat_at floats_at put_impulses put_floats
+unfolding swept records end_of flatten le16 le32 step.solve solve_of s.solve row_of constraint_of scalar_of spring_at response_at four_at vec3_at masses_at ids_at holds_of row-rules.key_of names_of put_solve solve_constraint velocity lose put_vec3 v.sub v.scale v.dot v.zero_vector s.total_of s.sought_of rate_of s.losses real.clamp is_nan to_bits of_bits ieee.of_fields ieee.lt ieee.le ieee.eq ieee.add ieee.sub ieee.neg ieee.mul ieee.div ieee.sum ieee.round ieee.units ieee.odd ieee.span ieee.climb ieee.size coro.solve co.solve_corotational co.solve_rows co.strain_step co.residual strain_rates local_velocities co.volume_step co.applied volume_losses volume_loss strain_tensor strain_rows_of outer_sum transpose mul_vec parts.add parts.sub parts.scale parts.component_mul dot6 six.mat_vec six.row v.add corotational_of cell_of pose_of impulses_of compliance_of springs_of volume_of mat3_at quat_at floats_at put_impulses put_floats
 swept₀ = refl
 
 -- of A₁, and of the same frame with its rows exchanged
 swept₁ : ((swept A₁).1 ≡ point_of quarter ∷ point_of half ∷ point_of quarter ∷ []) × ((swept B₁).1 ≡ point_of quarter ∷ point_of quarter ∷ point_of half ∷ [])
-unfolding swept records end_of flatten le16 le32 step.solve solve_of s.solve row_of constraint_of scalar_of spring_at response_at four_at vec3_at masses_at ids_at holds_of row-rules.key_of names_of put_solve solve_constraint velocity lose put_vec3 v.sub v.scale v.dot v.zero_vector s.total_of s.sought_of s.rate_of s.losses real.clamp is_nan to_bits of_bits ieee.of_fields ieee.lt ieee.le ieee.eq ieee.add ieee.sub ieee.neg ieee.mul ieee.div ieee.sum ieee.round ieee.units ieee.odd ieee.span ieee.climb ieee.size
+unfolding swept records end_of flatten le16 le32 step.solve solve_of s.solve row_of constraint_of scalar_of spring_at response_at four_at vec3_at masses_at ids_at holds_of row-rules.key_of names_of put_solve solve_constraint velocity lose put_vec3 v.sub v.scale v.dot v.zero_vector s.total_of s.sought_of rate_of s.losses real.clamp is_nan to_bits of_bits ieee.of_fields ieee.lt ieee.le ieee.eq ieee.add ieee.sub ieee.neg ieee.mul ieee.div ieee.sum ieee.round ieee.units ieee.odd ieee.span ieee.climb ieee.size
 swept₁ = (refl, refl)
 
 -- ---- not empty

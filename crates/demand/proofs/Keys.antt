@@ -12,7 +12,7 @@ use lib.ListN.{length, get_or, take}
 use borrow.Author.Tests.{ltb-true}
 use Rattle.little_endian.specs.Bytes.{le16}
 use Rattle.relisting.specs.Relist as any
-use Rattle.places.specs.declared.Ids.{Ids}
+use Rattle.places.specs.Places.{Ids}
 use Rattle.floats.specs.Fields.{ids_at}
 use Rattle.records.specs.declared.Due.TheVariants.{Row}
 use Rattle.rows.specs.Row.{nobody, counted, places, counted_places, keep_if, in_range}

@@ -12,10 +12,11 @@ use Rattle.little_endian.specs.Bytes.{le32, f32_at, is_finite}
 use Rattle.little_endian.proofs.Parts.{Bytes}
 use Rattle.vector.specs.declared.Vec3.{Vec3}
 use Rattle.vector.specs.declared.Four.{Four}
-use Rattle.places.specs.declared.Holds.{Holds}
-use Rattle.places.specs.Places.{refreshed}
+use Rattle.std.specs.Prelude.{Option, Some, None, is_some}
+use Rattle.places.specs.Places.{Holds, held_or, refreshed}
+use Rattle.gradients.specs.Kind.{kind_of}
 use Rattle.gradients.specs.Gradients.{distance_gradients, compute_gradients}
-use Rattle.gradients.specs.declared.Gradients.{Gradients}
+use Rattle.gradients.specs.declared.ScalarKind.TheVariants.{Distance, Dihedral, CellVolume}
 use Rattle.records.specs.Layout as at
 use Rattle.floats.specs.Fields.{vec3_at, four_at, put_vec3, put_four}
 use Rattle.floats.proofs.Same.{Finite3, put_vec3_same, bytes_set, bytes_put_vec3}
@@ -30,7 +31,7 @@ bytes_put_flag b i t y =
     let n : ℕ = cond t 1 0 in
     bytes_set (set b i (n % 256)) (suc i) (n / 256 % 256) (bytes_set b i (n % 256) y (omega arith)) (omega arith)
 
-pub bytes_put_four : (b : List ℕ) (i : ℕ) (v : Four) → Bytes b → Bytes (put_four b i v)
+pub bytes_put_four : (b : List ℕ) (i : ℕ) (v : Four Vec3) → Bytes b → Bytes (put_four b i v)
 unfolding put_four
 bytes_put_four b i v y =
     bytes_put_vec3 _ (i + 36) v.d (bytes_put_vec3 _ (i + 24) v.c (bytes_put_vec3 _ (i + 12) v.b (bytes_put_vec3 b i v.a y)))
@@ -80,9 +81,9 @@ beside_agree c b i v j n o a x p q = vec3_beside x c i v (o x p q) ∙ a x p q
 -- ---- one place: the value that it is given, or the one that it had
 
 module _ (k : ℕ) (b c : List ℕ) (i : ℕ) (a : Agree c b i 12) (y : Bytes c) (f : Finite3 b i) where
-  pub given_or_had : (t : Bool) (v : Vec3) → Outside k (when t (floats i 3)) → get_or (put_vec3 c i (cond t v (vec3_at b i))) k 0 ≡ get_or c k 0
-  given_or_had true v o = vec3_beside k c i v o.0
-  given_or_had false v o = ap (λ (l : List ℕ). get_or l k 0) (put_back c b i a y f)
+  pub given_or_had : (held : Option Vec3) → Outside k (when (is_some held) (floats i 3)) → get_or (put_vec3 c i (held_or held (vec3_at b i))) k 0 ≡ get_or c k 0
+  given_or_had (Some v) o = vec3_beside k c i v o.0
+  given_or_had None o = ap (λ (l : List ℕ). get_or l k 0) (put_back c b i a y f)
 
 -- ---- four places
 
@@ -93,7 +94,7 @@ pub record Finite12 (r : List ℕ) (i : ℕ) : Type 0 where
   pub d : Finite3 r (i + 36)
 
 -- c1, c2 and c3 are c after one, two and three puts
-module _ (b c : List ℕ) (i : ℕ) (v : Four) (a : Agree c b i 48) (y : Bytes c) where
+module _ (b c : List ℕ) (i : ℕ) (v : Four Vec3) (a : Agree c b i 48) (y : Bytes c) where
   abbrev c1 : List ℕ
   c1 = put_vec3 c i v.a
 
@@ -136,22 +137,22 @@ module _ (k : ℕ) (held : Holds) (b c : List ℕ) (a : Agree c b at.row_pos 48)
   pub positions_stay : Outside k (positions held) → get_or (put_four c at.row_pos (refreshed held (four_at b at.row_pos))) k 0 ≡ get_or c k 0
   unfolding positions put_four refreshed four_at
   positions_stay o =
-      let v : Four = refreshed held (four_at b at.row_pos) in
-      let o1 = outside_split k (when held.a.named (floats 30 3)) _ o in
-      let o2 = outside_split k (when held.b.named (floats 42 3)) _ o1.1 in
-      let o3 = outside_split k (when held.c.named (floats 54 3)) _ o2.1 in
-      given_or_had k b (c3 b c 30 v a y) 66 (a3 b c 30 v a y) (y3 b c 30 v a y) f.d held.d.named held.d.value o3.1
-      ∙ given_or_had k b (c2 b c 30 v a y) 54 (a2 b c 30 v a y) (y2 b c 30 v a y) f.c held.c.named held.c.value o3.0
-      ∙ given_or_had k b (c1 b c 30 v a y) 42 (a1 b c 30 v a y) (y1 b c 30 v a y) f.b held.b.named held.b.value o2.0
-      ∙ given_or_had k b c 30 (a0 b c 30 v a y) y f.a held.a.named held.a.value o1.0
+      let v : Four Vec3 = refreshed held (four_at b at.row_pos) in
+      let o1 = outside_split k (when (is_some held.a) (floats 30 3)) _ o in
+      let o2 = outside_split k (when (is_some held.b) (floats 42 3)) _ o1.1 in
+      let o3 = outside_split k (when (is_some held.c) (floats 54 3)) _ o2.1 in
+      given_or_had k b (c3 b c 30 v a y) 66 (a3 b c 30 v a y) (y3 b c 30 v a y) f.d held.d o3.1
+      ∙ given_or_had k b (c2 b c 30 v a y) 54 (a2 b c 30 v a y) (y2 b c 30 v a y) f.c held.c o3.0
+      ∙ given_or_had k b (c1 b c 30 v a y) 42 (a1 b c 30 v a y) (y1 b c 30 v a y) f.b held.b o2.0
+      ∙ given_or_had k b c 30 (a0 b c 30 v a y) y f.a held.a o1.0
 
 -- the gradients: a distance row assigns the first two, and leaves the others
 module _ (k : ℕ) (b c : List ℕ) (a : Agree c b at.scalar_grad 48) (y : Bytes c) (f : Finite12 b at.scalar_grad) where
-  abbrev Stays : Four → Type 0
+  abbrev Stays : Four Vec3 → Type 0
   Stays g = get_or (put_four c at.scalar_grad g) k 0 ≡ get_or c k 0
 
   -- the first two assigned, and the others as they were
-  two_assigned : (g : Four) → g.c ≡ vec3_at b (at.scalar_grad + 24) → g.d ≡ vec3_at b (at.scalar_grad + 36) → Out k at.scalar_grad 24 → Stays g
+  two_assigned : (g : Four Vec3) → g.c ≡ vec3_at b (at.scalar_grad + 24) → g.d ≡ vec3_at b (at.scalar_grad + 36) → Out k at.scalar_grad 24 → Stays g
   unfolding put_four
   two_assigned g e3 e4 o =
       ap (λ (l : List ℕ). get_or l k 0) (ap (put_vec3 (c3 b c 94 g a y) 130) e4 ∙ put_back (c3 b c 94 g a y) b 130 (a3 b c 94 g a y) (y3 b c 94 g a y) f.d)
@@ -159,7 +160,7 @@ module _ (k : ℕ) (b c : List ℕ) (a : Agree c b at.scalar_grad 48) (y : Bytes
       ∙ vec3_beside k (c1 b c 94 g a y) 106 g.b (out_part k 94 24 106 12 (omega arith) (omega arith) o)
       ∙ vec3_beside k c 94 g.a (out_part k 94 24 94 12 (omega arith) (omega arith) o)
 
-  four_assigned : (g : Four) → Out k at.scalar_grad 24 → Out k (at.scalar_grad + 24) 24 → Stays g
+  four_assigned : (g : Four Vec3) → Out k at.scalar_grad 24 → Out k (at.scalar_grad + 24) 24 → Stays g
   unfolding put_four
   four_assigned g o p =
       vec3_beside k (c3 b c 94 g a y) 130 g.d (out_part k 118 24 130 12 (omega arith) (omega arith) p)
@@ -167,13 +168,14 @@ module _ (k : ℕ) (b c : List ℕ) (a : Agree c b at.scalar_grad 48) (y : Bytes
       ∙ vec3_beside k (c1 b c 94 g a y) 106 g.b (out_part k 94 24 106 12 (omega arith) (omega arith) o)
       ∙ vec3_beside k c 94 g.a (out_part k 94 24 94 12 (omega arith) (omega arith) o)
 
-  module _ (pos : Four) (rest : Float) where
-    gradients_by : (t : Bool) (g : Gradients) → Out k at.scalar_grad 24 → Outside k (when (not t) (floats (at.scalar_grad + 24) 6))
-        → Stays (cond t (distance_gradients pos (four_at b at.scalar_grad) rest) g).grad
-    unfolding distance_gradients four_at
-    gradients_by true g o p = two_assigned _ refl refl o
-    gradients_by false g o p = four_assigned g.grad o p.0
+  module _ (pos : Four Vec3) (rest : Float) where
+    gradients_by : (t u : Bool) → Out k at.scalar_grad 24 → Outside k (when (not t) (floats (at.scalar_grad + 24) 6))
+        → Stays (compute_gradients (cond t Distance (cond u Dihedral CellVolume)) pos (four_at b at.scalar_grad) rest).grad
+    unfolding compute_gradients distance_gradients four_at
+    gradients_by true u o p = two_assigned _ refl refl o
+    gradients_by false true o p = four_assigned _ o p.0
+    gradients_by false false o p = four_assigned _ o p.0
 
-    pub gradients_stay : (type : ℕ) → Outside k (gradients type) → Stays (compute_gradients type pos (four_at b at.scalar_grad) rest).grad
-    unfolding gradients compute_gradients
-    gradients_stay type o = gradients_by (eqb type 0) _ o.0 o.1
+    pub gradients_stay : (type : ℕ) → Outside k (gradients type) → Stays (compute_gradients (kind_of type) pos (four_at b at.scalar_grad) rest).grad
+    unfolding gradients kind_of
+    gradients_stay type o = gradients_by (eqb type 0) (eqb type 1) o.0 o.1

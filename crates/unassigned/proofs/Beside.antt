@@ -47,7 +47,7 @@ module _ (k : ℕ) where
       ∙ f32_beside (put_f32 b i v.x) (i + 4) v.y (out_part i 12 (i + 4) 4 (omega arith) (omega arith) o)
       ∙ f32_beside b i v.x (out_part i 12 i 4 (omega arith) (omega arith) o)
 
-  pub four_beside : (b : List ℕ) (i : ℕ) (v : Four) → Out k i 48 → get_or (put_four b i v) k 0 ≡ get_or b k 0
+  pub four_beside : (b : List ℕ) (i : ℕ) (v : Four Vec3) → Out k i 48 → get_or (put_four b i v) k 0 ≡ get_or b k 0
   unfolding put_four
   four_beside b i v o =
       vec3_beside (put_vec3 (put_vec3 (put_vec3 b i v.a) (i + 12) v.b) (i + 24) v.c) (i + 36) v.d (out_part i 48 (i + 36) 12 (omega arith) (omega arith) o)

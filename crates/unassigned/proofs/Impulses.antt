@@ -7,7 +7,7 @@ use lib.Dec.{eqb}
 use lib.ListN.{get_or}
 use lib.Ieee.{Float}
 use Rattle.little_endian.specs.Bytes.{le16}
-use Rattle.places.specs.declared.Holds.{Holds}
+use Rattle.places.specs.Places.{Holds}
 use Rattle.cell.specs.declared.Impulses.{Impulses}
 use Rattle.records.specs.Layout as at
 use Rattle.rows.specs.Row.{Constraint, scalar, corotational, neo_hookean}
@@ -33,7 +33,7 @@ module _ (k : ℕ) (b : List ℕ) where
   module _ (coeff : Float) where
     warm_by : (t u : Bool)
         → Outside k (cond t (floats at.scalar_impulse 1) (cond u (floats at.elastic_strain_impulse 6 and floats at.elastic_vol_impulse 1) (floats at.elastic_strain_impulse 6 and floats at.elastic_vol_impulse 1)))
-        → get_or (warm_constraint (warmstart_of (by_kind b t u) coeff).constraint b) k 0 ≡ get_or b k 0
+        → get_or (warm_constraint (warmstart_of (by_kind b t u) coeff).state b) k 0 ≡ get_or b k 0
     unfolding warm_constraint warmstart_of
     warm_by true u o = f32_beside k b at.scalar_impulse _ o.0
     warm_by false true o = impulses_stay _ o
@@ -47,7 +47,7 @@ module _ (k : ℕ) (b : List ℕ) where
   module _ (vel : Holds) where
     solve_by : (t u : Bool)
         → Outside k (cond t (floats at.scalar_impulse 1) (cond u (floats at.elastic_strain_impulse 6 and floats at.elastic_vol_impulse 1) (floats at.elastic_strain_impulse 6)))
-        → get_or (solve_constraint (solve_of (by_kind b t u) vel).constraint b) k 0 ≡ get_or b k 0
+        → get_or (solve_constraint (solve_of (by_kind b t u) vel).state b) k 0 ≡ get_or b k 0
     unfolding solve_constraint solve_of
     solve_by true u o = f32_beside k b at.scalar_impulse _ o.0
     solve_by false true o = impulses_stay _ o

@@ -11,10 +11,11 @@ use lib.ListN.{get_or}
 use borrow.Author.Tests.{eq-eqb}
 use Rattle.little_endian.specs.Bytes.{le16}
 use Rattle.relisting.specs.Steps.{fetch}
-use Rattle.places.specs.declared.Ids.{Ids}
-use Rattle.places.specs.declared.Holds.{Holds}
+use Rattle.std.specs.Prelude.{is_some, Some, None}
+use Rattle.std.proofs.Math.Option.{Option}
+use Rattle.places.specs.Places.{Ids, Holds}
 use Rattle.records.specs.Layout as at
-use Rattle.rows.specs.Row.{nobody, places, holds_of}
+use Rattle.rows.specs.Row.{nobody, places, value_of, held_at, holds_of}
 use Rattle.stored.specs.Phases.{names_at}
 use Rattle.stored.specs.Points.{Points, position}
 use Rattle.stored.specs.PhaseLaws.{names_on, names_are, positions_on}
@@ -33,21 +34,21 @@ outside_when k false fs o = tt
 
 -- place p of these is not fetched
 pub record Skips (held : Holds) (p : ℕ) : Type 0 where
-  pub a : p ≡ 0 → held.a.named ≡ false
-  pub b : p ≡ 1 → held.b.named ≡ false
-  pub c : p ≡ 2 → held.c.named ≡ false
-  pub d : p ≡ 3 → held.d.named ≡ false
+  pub a : p ≡ 0 → is_some held.a ≡ false
+  pub b : p ≡ 1 → is_some held.b ≡ false
+  pub c : p ≡ 2 → is_some held.c ≡ false
+  pub d : p ≡ 3 → is_some held.d ≡ false
 
-not_named : (id : ℕ) → id ≡ nobody → not (eqb id nobody) ≡ false
-not_named id e = ap not (eq-eqb id nobody e)
+not_named : (id : ℕ) (p : Option (List ℕ)) → id ≡ nobody → is_some (held_at position id p) ≡ false
+not_named id p e = ap (λ (t : Bool). is_some (cond t None (Some (value_of position p)))) (eq-eqb id nobody e)
 
 skips_by : (i : Ids) (ps : Points) (is : List ℕ) → is ≡ places i → (p : ℕ) → get_or (places i) p 0 ≡ nobody → Skips (holds_of position is (fetch is ps)) p
 unfolding holds_of
 skips_by i ps is e p h = subst (λ (l : List ℕ). Skips (holds_of position l (fetch l ps)) p) (sym e) (record {
-  a = λ z. not_named i.a (subst (λ (q : ℕ). get_or (places i) q 0 ≡ nobody) z h);
-  b = λ z. not_named i.b (subst (λ (q : ℕ). get_or (places i) q 0 ≡ nobody) z h);
-  c = λ z. not_named i.c (subst (λ (q : ℕ). get_or (places i) q 0 ≡ nobody) z h);
-  d = λ z. not_named i.d (subst (λ (q : ℕ). get_or (places i) q 0 ≡ nobody) z h);
+  a = λ z. not_named i.a _ (subst (λ (q : ℕ). get_or (places i) q 0 ≡ nobody) z h);
+  b = λ z. not_named i.b _ (subst (λ (q : ℕ). get_or (places i) q 0 ≡ nobody) z h);
+  c = λ z. not_named i.c _ (subst (λ (q : ℕ). get_or (places i) q 0 ≡ nobody) z h);
+  d = λ z. not_named i.d _ (subst (λ (q : ℕ). get_or (places i) q 0 ≡ nobody) z h);
 })
 
 pub skips : (b : List ℕ) (ps : Points) (p : ℕ) → get_or (places (names_at b)) p 0 ≡ nobody → Skips (positions_on b ps) p
@@ -76,10 +77,10 @@ module _ (p j : ℕ) (four : p < 4) (few : j < 12) where
     positions_out : Outside byte (positions held)
     unfolding positions
     positions_out =
-        outside_join byte (when held.a.named (floats 30 3)) _ (beside_place held.a.named 0 s.a)
-        (outside_join byte (when held.b.named (floats 42 3)) _ (beside_place held.b.named 1 s.b)
-        (outside_join byte (when held.c.named (floats 54 3)) _ (beside_place held.c.named 2 s.c)
-        (beside_place held.d.named 3 s.d)))
+        outside_join byte (when (is_some held.a) (floats 30 3)) _ (beside_place (is_some held.a) 0 s.a)
+        (outside_join byte (when (is_some held.b) (floats 42 3)) _ (beside_place (is_some held.b) 1 s.b)
+        (outside_join byte (when (is_some held.c) (floats 54 3)) _ (beside_place (is_some held.c) 2 s.c)
+        (beside_place (is_some held.d) 3 s.d)))
 
     -- every field but the positions lies before byte 30 or from byte 78 on
     gradients_out : (type : ℕ) → Outside byte (gradients type)

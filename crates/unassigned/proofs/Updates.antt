@@ -11,7 +11,7 @@ use lib.Ieee.{Float}
 use borrow.Author.Tests.{eqb-true}
 use Rattle.little_endian.specs.Bytes.{le16}
 use Rattle.little_endian.proofs.Parts.{Bytes}
-use Rattle.places.specs.declared.Holds.{Holds}
+use Rattle.places.specs.Places.{Holds}
 use Rattle.places.specs.Places.{refreshed}
 use Rattle.scalar.specs.Row as s
 use Rattle.scalar.specs.declared.Response.{Response}

@@ -1,7 +1,7 @@
 -- WHICH BYTES OF A ROW'S RECORD EACH PHASE ASSIGNS, field by field as the Rust assigns them. Definitions only. Assumes nothing.
-use Rattle.std.specs.Prelude.{ℕ, ◌+◌, ◌*◌, ◌<◌, ◌≤◌, ◌⊎◌, Bool, cond, not, List, [], ◌∷◌, ◌++◌, eqb}
+use Rattle.std.specs.Prelude.{ℕ, ◌+◌, ◌*◌, ◌<◌, ◌≤◌, ◌⊎◌, Bool, cond, not, is_some, List, [], ◌∷◌, ◌++◌, eqb}
 use Rattle.little_endian.specs.Bytes.{le16}
-use Rattle.places.specs.declared.Holds.{Holds}
+use Rattle.places.specs.Places.{Holds}
 use Rattle.cell.specs.Cell.{update_pose}
 use Rattle.neo_hookean.specs.NeoHookean.{is_fresh}
 use Rattle.records.specs.Layout as at
@@ -40,10 +40,10 @@ Outside k (f ∷ fs) = Out k f.0 f.1 × Outside k fs
 -- the position of each place that is fetched: the id 0xFFFFFFFF, and a place past a scalar row's count, are skipped
 unfoldable pub positions : Holds → List Field
 positions held =
-    when held.a.named (floats at.row_pos 3)
-    and when held.b.named (floats (at.row_pos + 12) 3)
-    and when held.c.named (floats (at.row_pos + 24) 3)
-    and when held.d.named (floats (at.row_pos + 36) 3)
+    when (is_some held.a) (floats at.row_pos 3)
+    and when (is_some held.b) (floats (at.row_pos + 12) 3)
+    and when (is_some held.c) (floats (at.row_pos + 24) 3)
+    and when (is_some held.d) (floats (at.row_pos + 36) 3)
 
 -- by the row's type: a distance row, 0, assigns the first two gradients only
 unfoldable pub gradients : ℕ → List Field
