@@ -35,11 +35,10 @@ fn answer<W: Write>(frame: &mut [u8], output: &mut W) -> io::Result<()>
     }
     match run::run(frame) {
         Ok(()) => output.write_all(frame),
-        Err(refused) => refuse(
-            output,
-            u64::from(refused.why.number()),
-            refused.place as u64,
-        ),
+        Err(refused) => {
+            let number = u64::from(refused.why.number());
+            refuse(output, number, refused.place as u64)
+        }
     }
 }
 

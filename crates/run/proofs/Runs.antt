@@ -118,7 +118,7 @@ module _ (s : List ℕ) (o : Result Unit Refused) (e : answer_of o ≡ check_of 
         l.bytes
         ∙ (λ i. lay (head s) (run (phases (en i) (ep i)) (resweep_step (en i)) (ek i) (rows s) (points s)))
         ∙ ap (λ (f : List ℕ → Points → List ℕ × Points). lay (head s) (run f (resweep_step (count_n s)) (resweeps_of s) (rows s) (points s)))
-          (both_phases (count_n s) (updates (mode_of s)) (warms (mode_of s)) (warm_coefficient s) (least_strain s))
+        (both_phases (count_n s) (updates (mode_of s)) (warms (mode_of s)) (warm_coefficient s) (least_strain s))
         ∙ simp (eq-eqb (check_of s).number 0 number)
 
   pub not_run : (x : Refused) → o ≡ Err x → s ≡ leaves s
