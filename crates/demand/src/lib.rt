@@ -1,9 +1,2 @@
-// Demand 3 stands in specs/ and is proved in proofs/. There is no code to prove here, but a crate has at least one function.
+// Demand 3 stands in specs/ and is proved in proofs/: there is no code.
 #![tactic(auto)]
-
-ghost use Rattle.std.specs.Prelude.{◌≡◌};
-
-// The one value of its type.
-fn nothing()
-    ensures { result ≡ tt }
-{}

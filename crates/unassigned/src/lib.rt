@@ -1,9 +1,2 @@
-// Which bytes of a row's record a phase assigns stands in specs/; that all others stay is proved in proofs/. There is no code to prove here, but a crate has at least one function.
+// Which bytes of a row's record a phase assigns stands in specs/; that all others stay is proved in proofs/. There is no code.
 #![tactic(auto)]
-
-ghost use Rattle.std.specs.Prelude.{◌≡◌};
-
-// The one value of its type.
-fn nothing()
-    ensures { result ≡ tt }
-{}
