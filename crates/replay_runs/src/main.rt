@@ -63,8 +63,8 @@ fn first(bytes: &[u8]) -> Option<(Entry<'_>, &[u8])>
 fn as_stored(frame: &mut [u8], number: u32, place: u32, after: &[u8]) -> bool
     ensures { result ≡ spec.as_stored frame.old number place after.now }
 {
-    let checked = run::check(frame).into();
-    let returned = run::run(frame).into();
+    let checked = Answer::from(run::check(frame));
+    let returned = Answer::from(run::run(frame));
     is(checked, number, place) & is(returned, number, place) & (&*frame == after)
 }
 

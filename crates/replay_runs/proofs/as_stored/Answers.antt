@@ -11,8 +11,10 @@ returns c =
       same_bytes,
       c.is-2.ensures,
       c.is.ensures,
-      c.run-returned.ensures.0,
-      c.run-returned.ensures.1,
-      c.check-checked.ensures,
+      c.from-returned.ensures,
+      c.from-checked.ensures,
+      c.run.ensures.0,
+      c.run.ensures.1,
+      c.check.ensures,
     )
     refl
