@@ -280,6 +280,6 @@ pub fn root(low: u32) -> u64
 {
     curve(
         QUADRATICS[(low / 65536 % 256) as usize],
-        (low % 65536) as u64,
+        u64::from(low % 65536),
     )
 }
