@@ -4,3 +4,4 @@ pub mod Cases
 pub mod Pivot
 pub mod Elimination
 pub mod Factors
+pub mod Falling

@@ -162,25 +162,25 @@ fn forward(m: &[f32; 36], x: &mut [f32; 6])
     }
 }
 
-#[tactic(auto, using(loops::specs::Loops::counted), unfolding(crate::specs::Inverse::backward_at))]
+#[tactic(auto, using(crate::specs::Falling::terms), unfolding(crate::specs::Inverse::backward_at))]
 fn backward_at(m: &[f32; 36], x: &[f32; 6], i: usize) -> f32
     requires { i < 6 }
     ensures { result ≡ spec.backward_at m.now x.now i }
 {
     let mut acc = x[i];
-    for u in 0..5 - i {
-        acc -= m[(5 - u) * 6 + i] * x[5 - u];
+    for k in (i + 1..6).rev() {
+        acc -= m[k * 6 + i] * x[k];
     }
     acc / m[i * 6 + i]
 }
 
-#[tactic(auto, using(loops::specs::Loops::counted), unfolding(crate::specs::Inverse::backward))]
+#[tactic(auto, using(crate::specs::Falling::parts), unfolding(crate::specs::Inverse::backward))]
 fn backward(m: &[f32; 36], x: &mut [f32; 6])
     ensures { x.new ≡ spec.backward m.now x.old }
 {
-    for u in 0usize..6 {
-        let v = backward_at(m, x, 5 - u);
-        x[5 - u] = v;
+    for i in (0usize..6).rev() {
+        let v = backward_at(m, x, i);
+        x[i] = v;
     }
 }
 

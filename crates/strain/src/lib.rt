@@ -13,6 +13,7 @@ use std::array::from_fn;
 
 // ---- lists of N floats, part by part: N is 6 for a strain, 36 for a matrix
 
+#[tactic(auto, using(loops::specs::Fill::tabulated), unfolding(crate::specs::Parts::add))]
 pub fn add<const N: usize>(a: &[f32; N], b: &[f32; N]) -> [f32; N]
     ensures { result ≡ parts.add N a.now b.now }
 {
@@ -24,6 +25,7 @@ pub fn add<const N: usize>(a: &[f32; N], b: &[f32; N]) -> [f32; N]
     )
 }
 
+#[tactic(auto, using(loops::specs::Fill::tabulated), unfolding(crate::specs::Parts::sub))]
 pub fn sub<const N: usize>(a: &[f32; N], b: &[f32; N]) -> [f32; N]
     ensures { result ≡ parts.sub N a.now b.now }
 {
@@ -35,6 +37,7 @@ pub fn sub<const N: usize>(a: &[f32; N], b: &[f32; N]) -> [f32; N]
     )
 }
 
+#[tactic(auto, using(loops::specs::Fill::tabulated), unfolding(crate::specs::Parts::component_mul))]
 pub fn component_mul<const N: usize>(a: &[f32; N], b: &[f32; N]) -> [f32; N]
     ensures { result ≡ parts.component_mul N a.now b.now }
 {
@@ -46,6 +49,7 @@ pub fn component_mul<const N: usize>(a: &[f32; N], b: &[f32; N]) -> [f32; N]
     )
 }
 
+#[tactic(auto, using(loops::specs::Fill::tabulated), unfolding(crate::specs::Parts::scale))]
 pub fn scale<const N: usize>(a: &[f32; N], s: f32) -> [f32; N]
     ensures { result ≡ parts.scale N a.now s }
 {
@@ -110,14 +114,12 @@ fn column(m: &[f32; 36], j: usize) -> [f32; 6]
     from_fn(|i| m[j * 6 + i])
 }
 
-#[tactic(auto, using(loops::specs::Loops::counted))]
+#[tactic(auto, using(crate::specs::Columns::written_over))]
 pub fn set_column(m: &mut [f32; 36], j: usize, c: &[f32; 6])
     requires { j < 6 }
     ensures { m.new ≡ columns.set_column m.old j c.now }
 {
-    for i in 0usize..6 {
-        m[j * 6 + i] = c[i];
-    }
+    m[j * 6..j * 6 + 6].copy_from_slice(c);
 }
 
 pub fn mat_mul(a: &[f32; 36], b: &[f32; 36]) -> [f32; 36]
@@ -130,35 +132,19 @@ pub fn mat_mul(a: &[f32; 36], b: &[f32; 36]) -> [f32; 36]
     r
 }
 
-// Column j of what `ger` makes.
-fn ger_column(factor: f32, w: &[f32; 6], m: &[f32; 36], j: usize) -> [f32; 6]
-    requires { j < 6 }
-    ensures { result ≡ columns.column_of (matrix.ger_at factor w.now m.now) j }
-{
-    from_fn(|i| factor * w[j] * w[i] + m[j * 6 + i])
-}
-
+#[tactic(auto, unfolding(crate::specs::Matrix::ger))]
 pub fn ger(factor: f32, w: &[f32; 6], m: &[f32; 36]) -> [f32; 36]
     ensures { result ≡ matrix.ger factor w.now m.now }
 {
-    let mut r = [0.0f32; 36];
-    for j in 0usize..6 {
-        set_column(&mut r, j, &ger_column(factor, w, m, j));
-    }
-    r
+    from_fn(|k| factor * w[k / 6] * w[k % 6] + m[k])
 }
 
 // ---- whole matrices
 
-#[tactic(auto, using(loops::specs::Loops::counted), unfolding(crate::specs::Matrix::from_diagonal))]
 pub fn from_diagonal(d: &[f32; 6]) -> [f32; 36]
     ensures { result ≡ matrix.from_diagonal d.now }
 {
-    let mut r = [0.0f32; 36];
-    for i in 0usize..6 {
-        r[7 * i] = d[i];
-    }
-    r
+    from_fn(|k| if k % 6 == k / 6 { d[k / 6] } else { 0.0 })
 }
 
 #[tactic(auto, unfolding(crate::specs::Matrix::from_diagonal, crate::specs::Matrix::identity6))]

@@ -1,7 +1,7 @@
-use Rattle.std.specs.Prelude.{◌≡◌, ◌-◌}
+use Rattle.std.specs.Prelude.{◌-◌}
 use Rattle.loops.specs.Loops.{Ran}
 use Rattle.inverse.specs.Inverse.{backward_turn}
 use Rattle.inverse.proofs.backward_at.Given as goal
 
-abbrev pub invariant-loop-u : goal.invariant-loop-u
-invariant-loop-u l = (Ran (5 - l.i) (backward_turn l.m l.x l.i) l.initial.acc l.u l.acc) × (l.u-end ≡ 5 - l.i)
+abbrev pub invariant-loop-k : goal.invariant-loop-k
+invariant-loop-k l = Ran (5 - l.i) (backward_turn l.m l.x l.i) l.initial.acc (6 - l.k) l.acc

@@ -1,12 +1,10 @@
--- `root::floor_root` meets its contract. Before each turn the digits above `bit` are settled (`Digits`). Assumes nothing.
-use Rattle.std.specs.Prelude.{refl}
-use Rattle.std.proofs.Common.{rules, ◌∙◌, le-leb}
-use Rattle.std.proofs.lemmas.Bool.{lt-leb}
-use Rattle.root.specs.Whole.{digits_more}
+-- `root::floor_root` meets its contract: a digit is taken where the square with it is at most n. Assumes nothing.
+use Rattle.std.proofs.Common.{rules}
+use Rattle.root.specs.Whole.{digit_taken, digit_left}
 use Rattle.root.proofs.floor_root.Goals as goal
-use Rattle.root.proofs.floor_root.Goals.{then-q-n, else-q-n}
 
-pub loop-preserved : goal.loop-preserved
-loop-preserved c =
-    digits_more c.loop.invariant (search rules)
-    (elim c.if-q-n.branch [ then-q-n w ↦ w.r-is ∙ rw (le-leb _ _ w.if-q-n.true) refl | else-q-n w ↦ w.r-is ∙ rw (lt-leb _ _ w.if-q-n.false) refl ])
+pub loop-k-preserved-then-q-n : goal.loop-k-preserved-then-q-n
+loop-k-preserved-then-q-n c = digit_taken c.loop-k.invariant (search rules) (search rules) c.if-q-n.true
+
+pub loop-k-preserved : goal.loop-k-preserved
+loop-k-preserved c = digit_left c.loop-k.invariant (search rules) (search rules) c.if-q-n.false

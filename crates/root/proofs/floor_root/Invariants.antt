@@ -1,9 +1,6 @@
-use Rattle.std.specs.Prelude.{◌-◌}
+use Rattle.std.specs.Prelude.{◌^◌, ◌-◌}
 use Rattle.root.specs.Whole.{Digits}
 use Rattle.root.proofs.floor_root.Given as goal
 
-abbrev pub invariant-loop : goal.invariant-loop
-invariant-loop l = Digits l.n l.counter l.r l.bit
-
-abbrev pub decreases-loop : goal.decreases-loop
-decreases-loop l = 24 - l.counter
+abbrev pub invariant-loop-k : goal.invariant-loop-k
+invariant-loop-k l = Digits l.n (24 - l.k) l.r (2 ^ l.k)
