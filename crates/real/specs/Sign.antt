@@ -1,11 +1,11 @@
--- How the code of `abs` gets at the sign, since 0 - x is exact, and that `signum` is the library's, and goes by the highest bit. Assumes nothing.
+-- How the code of `abs` and `signum` gets at the sign: 0 - x is exact, and the sign is the highest bit. Assumes nothing.
 use Rattle.std.specs.Prelude.{ℕ, zero, suc, ◌+◌, ◌-◌, ◌*◌, ◌/◌, ◌%◌, ◌^◌, ◌<◌, ◌≤◌, ◌≡◌, refl, not, Bool, true, false, cond, ◌&&◌, T, leb, ltb, eqb, ℤ, pos, negsuc, Float}
 use Rattle.std.proofs.Common.{sym, ap, ◌∙◌, mul-one, mul_assoc, mul_right_comm, mul-pos, mul-lt-mul_of_pos_right, lt_of_mul-lt-mul_right, lt_of_not-le, not-le_of_lt, le_of_eq, lt_of_lt_of_le, lt_of_le_of_lt, zero-mul, zero-add, one-mul, arith, le-leb, lt-ltb, eqb→eq, pow-add, pow_pos}
 use Rattle.std.proofs.Math.Nat.{pow-succ'}
 use Rattle.std.proofs.lemmas.Bool.{lt-leb}
 use Rattle.std.proofs.Math.Dec.{leb→le, ltb→lt}
 use Rattle.std.proofs.Math.Pow.{pow-lt}
-use Rattle.std.specs.Float.{nan, inf, fin, binary32, float_signum}
+use Rattle.std.specs.Float.{nan, inf, fin, binary32}
 use Rattle.std.specs.Float.Ieee.{of_bits, to_bits, is_nan, neg, sub, round, lt, fits, up, down}
 use Rattle.std.specs.Float.Ieee.Bits.{of_bits-to_bits, to_bits-lt}
 use Rattle.std.specs.Float.Ieee.Exact.{HasValue, round_exact}
@@ -134,16 +134,7 @@ unfolding neg
 sign_bit true m e h = le-leb 2147483648 (to_bits binary32 (fin true m e)) (omega (arith, above m e))
 sign_bit false m e h = lt-leb 2147483648 (to_bits binary32 (fin false m e)) (omega (arith, above m e, to_bits-lt binary32 (fin true m e) (neg-fits binary32 (fin false m e) h)))
 
--- the library's `signum`, which is the code's
-pub by_library : (x : Float) → float_signum x ≡ signum x
-unfolding signum float_signum neg of_bits
-by_library nan = refl
-by_library (inf true) = refl
-by_library (inf false) = refl
-by_library (fin true m e) = refl
-by_library (fin false m e) = refl
-
--- and by that bit
+-- the code of `signum`
 pub by_sign_bit : (x : Float) → T (fits binary32 x) → is_nan x ≡ false → cond (leb 0x8000_0000 (to_bits binary32 x)) (neg f1) f1 ≡ signum x
 unfolding signum is_nan to_bits
 by_sign_bit nan h n = absurd (false_not_true (sym n))

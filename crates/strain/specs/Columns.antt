@@ -1,9 +1,8 @@
 -- A matrix that a loop makes column by column is the one that `from_fn` says. Assumes nothing.
-use Rattle.std.specs.Prelude.{ℕ, suc, ◌+◌, ◌-◌, ◌*◌, ◌/◌, ◌%◌, ◌<◌, ◌≤◌, ◌≡◌, refl, List, ◌++◌, length, set, take, drop, Float}
-use Rattle.std.proofs.Common.{sym, ap, ◌∙◌, arith, ext_get_or, append_assoc, drop-drop}
-use Rattle.std.proofs.lemmas.List.Edits.{sets, sets-eq}
+use Rattle.std.specs.Prelude.{ℕ, ◌+◌, ◌*◌, ◌/◌, ◌%◌, ◌<◌, ◌≤◌, ◌≡◌, refl, List, length, set, Float}
+use Rattle.std.proofs.Common.{ap, ◌∙◌, arith}
 use Rattle.std.specs.Float.{nan}
-use Rattle.loops.specs.Fill.{tabulate, Filled, filled_none, filled_column, filled_all, get_d_tabulate}
+use Rattle.loops.specs.Fill.{tabulate, Filled, filled_none, filled_column, filled_all}
 use Rattle.real.specs.Float.{at}
 use Rattle.strain.specs.Matrix.{from_fn}
 
@@ -51,22 +50,3 @@ module _ {f : ℕ → ℕ → Float} where
 
   pub columns_all : {m : List Float} {j : ℕ} → Columns f m j → 6 ≤ j → m ≡ from_fn f
   columns_all w h = filled_all w.filled (omega arith)
-
--- ---- a column written over six elements
-
-six_of : (c : List Float) → length c ≡ 6 → tabulate 6 (at c) ≡ c
-six_of c h = ext_get_or nan (tabulate 6 (at c)) c (sym h) (λ k b. get_d_tabulate nan 6 (at c) k b)
-
--- what `set_column` leaves
-pub written_over : (m c : List Float) {j : ℕ} → length m ≡ 36 → length c ≡ 6 → j < 6
-    → take (j * 6) m ++ (c ++ drop (j * 6 + 6 - j * 6) (drop (j * 6) m)) ≡ set_column m j c
-written_over m c {j} h e b =
-    let e1 : j * 6 + 1 ≡ suc (j * 6) = omega arith in
-    let e2 : j * 6 + 2 ≡ suc (suc (j * 6)) = omega arith in
-    let e3 : j * 6 + 3 ≡ suc (suc (suc (j * 6))) = omega arith in
-    let e4 : j * 6 + 4 ≡ suc (suc (suc (suc (j * 6)))) = omega arith in
-    let e5 : j * 6 + 5 ≡ suc (suc (suc (suc (suc (j * 6))))) = omega arith in
-    let k : j * 6 + 6 - j * 6 ≡ 6 = omega arith in
-    rw (k, drop-drop, e1, e2, e3, e4, e5)
-    (ap (λ (l : List Float). take (j * 6) m ++ (l ++ drop (j * 6 + 6) m)) (sym (six_of c e))
-    ∙ sym (sets-eq (tabulate 6 (at c)) m (j * 6) (omega (arith, h)) ∙ append_assoc (take (j * 6) m) (tabulate 6 (at c)) (drop (j * 6 + 6) m)))

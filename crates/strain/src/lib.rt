@@ -63,6 +63,7 @@ pub fn scale<const N: usize>(a: &[f32; N], s: f32) -> [f32; N]
 
 // ---- six-vectors
 
+// Written out: a `fold` from the first product is longer, and one from 0.0, as `sum` is, adds a zero first.
 #[tactic(auto, unfolding(crate::specs::Six::dot6))]
 pub fn dot6(a: &[f32; 6], b: &[f32; 6]) -> f32
     ensures { result ≡ six.dot6 a.now b.now }
@@ -114,14 +115,18 @@ fn column(m: &[f32; 36], j: usize) -> [f32; 6]
     from_fn(|i| m[j * 6 + i])
 }
 
-#[tactic(auto, using(crate::specs::Columns::written_over))]
+// A store for each part: with `copy_from_slice` a product of matrices took 73 to 97 ns for 41 to 54.
+#[tactic(auto, using(loops::specs::Loops::counted))]
 pub fn set_column(m: &mut [f32; 36], j: usize, c: &[f32; 6])
     requires { j < 6 }
     ensures { m.new ≡ columns.set_column m.old j c.now }
 {
-    m[j * 6..j * 6 + 6].copy_from_slice(c);
+    for (i, x) in c.iter().enumerate() {
+        m[j * 6 + i] = *x;
+    }
 }
 
+// Column by column, as the columns lie: `from_fn` over all 36 entries would make each column six times.
 pub fn mat_mul(a: &[f32; 36], b: &[f32; 36]) -> [f32; 36]
     ensures { result ≡ matrix.mat_mul a.now b.now }
 {
@@ -132,19 +137,37 @@ pub fn mat_mul(a: &[f32; 36], b: &[f32; 36]) -> [f32; 36]
     r
 }
 
-#[tactic(auto, unfolding(crate::specs::Matrix::ger))]
+// Column j of what `ger` makes.
+fn ger_column(factor: f32, w: &[f32; 6], m: &[f32; 36], j: usize) -> [f32; 6]
+    requires { j < 6 }
+    ensures { result ≡ columns.column_of (matrix.ger_at factor w.now m.now) j }
+{
+    from_fn(|i| factor * w[j] * w[i] + m[j * 6 + i])
+}
+
+// Column by column: by `from_fn` over all 36 entries it took 65 to 87 ns for 12.5.
 pub fn ger(factor: f32, w: &[f32; 6], m: &[f32; 36]) -> [f32; 36]
     ensures { result ≡ matrix.ger factor w.now m.now }
 {
-    from_fn(|k| factor * w[k / 6] * w[k % 6] + m[k])
+    let mut r = [0.0f32; 36];
+    for j in 0usize..6 {
+        set_column(&mut r, j, &ger_column(factor, w, m, j));
+    }
+    r
 }
 
 // ---- whole matrices
 
+// Six stores: by `from_fn` over all 36 entries it took 70 to 82 ns for 6.9.
+#[tactic(auto, using(loops::specs::Loops::counted), unfolding(crate::specs::Matrix::from_diagonal))]
 pub fn from_diagonal(d: &[f32; 6]) -> [f32; 36]
     ensures { result ≡ matrix.from_diagonal d.now }
 {
-    from_fn(|k| if k % 6 == k / 6 { d[k / 6] } else { 0.0 })
+    let mut r = [0.0f32; 36];
+    for (i, x) in d.iter().enumerate() {
+        r[7 * i] = *x;
+    }
+    r
 }
 
 #[tactic(auto, unfolding(crate::specs::Matrix::from_diagonal, crate::specs::Matrix::identity6))]

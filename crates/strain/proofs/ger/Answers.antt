@@ -1,13 +1,15 @@
--- `strain::ger` meets its contract: element k is the entry in row k % 6 and column k / 6. Assumes nothing.
-use Rattle.std.specs.Prelude.{◌≡◌, ◌+◌, ◌*◌, ◌/◌, ◌%◌}
-use Rattle.std.proofs.Common.{rules, arith}
-use Rattle.loops.specs.Fill.{tabulated}
-use Rattle.strain.specs.Matrix.{ger, ger_at}
+-- `strain::ger` meets its contract. A column a turn. Assumes nothing.
+use Rattle.std.proofs.Common.{rules}
+use Rattle.strain.specs.Columns.{columns_none, columns_more, columns_all}
+use Rattle.strain.specs.Matrix.{ger}
 use Rattle.strain.proofs.ger.Goals as goal
+
+pub loop-j-init : goal.loop-j-init
+loop-j-init c = columns_none (search rules)
+
+pub loop-j-preserved : goal.loop-j-preserved
+loop-j-preserved c = columns_more c.loop-j.invariant (search rules) c.set_column.ensures c.ger_column.ensures
 
 pub returns : goal.returns
 unfolding ger
-returns c =
-    tabulated _ (λ k. ger_at c.args.factor c.args.w.now c.args.m.now (k % 6) (k / 6))
-    (λ k y q called. let e : k / 6 * 6 + k % 6 ≡ k = omega arith in rw e (search rules))
-    c.from_fn.ensures.items
+returns c = columns_all c.loop-j.invariant (search rules)
