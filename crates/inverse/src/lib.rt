@@ -167,11 +167,11 @@ fn backward_at(m: &[f32; 36], x: &[f32; 6], i: usize) -> f32
     requires { i < 6 }
     ensures { result ≡ spec.backward_at m.now x.now i }
 {
-    let mut acc = x[i];
+    let mut rest = x[i];
     for k in (i + 1..6).rev() {
-        acc -= m[k * 6 + i] * x[k];
+        rest -= m[k * 6 + i] * x[k];
     }
-    acc / m[i * 6 + i]
+    rest / m[i * 6 + i]
 }
 
 #[tactic(auto, using(crate::specs::Falling::parts), unfolding(crate::specs::Inverse::backward))]

@@ -1,10 +1,12 @@
 // The steps of a Jacobi sweep, on three-by-three arrays of arrays. The pair of axes, P and Q, are const parameters: each instance has few callers and is compiled
-// with them as constants. As arguments they make a sweep take twice the time.
+// with them as constants. As arguments they make a sweep take twice the time. Their bounds stand in each contract: a type that knew them would be a value
+// without bytes, handed along for them alone.
 ghost use Rattle.std.specs.Prelude.{◌≡◌, ◌<◌};
 ghost use Rattle.real.specs.Float.{◌⊕◌, ◌⊖◌, ◌⊗◌};
 ghost use Rattle.linalg.specs.Eigen as spec;
 ghost use Rattle.linalg.specs.Steps as steps;
 
+// A matrix row by row.
 pub(crate) type Rows = [[f32; 3]; 3];
 
 // A rotation by its cosine and sine.
@@ -55,7 +57,7 @@ pub(crate) fn rotation_at<const P: usize, const Q: usize>(a: Rows) -> Option<Rot
     rotation_for(a[P][Q], a[Q][Q] - a[P][P])
 }
 
-// A J, row after row.
+// A J, row after row. This and the next differ in the order of two indices: a flag for it would be no plainer.
 #[tactic(auto, using(loops::specs::Loops::counted), unfolding(crate::specs::Eigen::rotate_columns))]
 fn rotate_columns<const P: usize, const Q: usize>(m: Rows, g: Rotation) -> Rows
     requires { (P < 3) × (Q < 3) }

@@ -5,9 +5,10 @@ ghost use Rattle.std.specs.Prelude.{◌≡◌};
 ghost use Rattle.linalg.specs.Eigen as spec;
 ghost use Rattle.linalg.specs.Products as products;
 
-use vector::{Mat3, Vec3};
-
 mod jacobi; // the steps of a sweep
+
+use jacobi::Rows;
+use vector::{Mat3, Vec3};
 
 // The eigenvalues, and the eigenvectors as columns.
 #[repr(C)]
@@ -18,7 +19,7 @@ pub struct Eigen {
 }
 
 // The values on the diagonal, and vector k from column k.
-fn eigen_of(a: [[f32; 3]; 3], v: [[f32; 3]; 3]) -> Eigen
+fn eigen_of(a: Rows, v: Rows) -> Eigen
     ensures { result ≡ spec.eigen_of (record { a = a; v = v }) }
 {
     Eigen {

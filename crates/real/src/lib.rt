@@ -6,6 +6,8 @@ ghost use Rattle.real.specs.Real as spec;
 ghost use Rattle.real.specs.SinCos as sine;
 ghost use Rattle.real.specs.Acos as arc;
 
+use std::f32::consts::PI;
+
 // A choice between two values that are at hand: the callers have no branch.
 pub fn pick<T: Copy>(b: bool, x: T, y: T) -> T
     ensures { result ≡ cond b x y }
@@ -30,7 +32,7 @@ pub fn signum(x: f32) -> f32
     if x.is_nan() {
         return x;
     }
-    if 0x8000_0000 <= x.to_bits() {
+    if SIGN <= x.to_bits() {
         return -1.0;
     }
     1.0
@@ -67,6 +69,16 @@ pub fn inv(x: f32) -> f32
     pick(is_tiny(x), 0.0, 1.0 / x)
 }
 
+// The bit of a float's sign, and a one in its exponent's place: the significand's bits lie below it.
+const SIGN: u32 = 0x8000_0000;
+
+const ONE_MORE: u32 = 0x80_0000;
+
+// 2^-21, and 6.2831855 in units of it.
+const UNIT: f32 = 4.76837158203125e-7;
+
+const TURN: u32 = 13_176_795;
+
 // A sine and a cosine of one angle.
 #[repr(C)]
 #[derive(Clone, Copy)]
@@ -75,14 +87,14 @@ pub struct SinCos {
     pub c: f32,
 }
 
-// What is left of n·2^k when 13176795 is taken off as often as it goes, by one doubling after the other.
+// What is left of n·2^k when a turn is taken off as often as it goes, by one doubling after the other.
 #[tactic(auto, using(crate::proofs::Turn::once_more))]
 fn left_of(n: u32, k: u32) -> u32
     ensures { result ≡ n * 2 ^ k % 13176795 }
 {
-    let mut r = n % 13176795;
+    let mut r = n % TURN;
     for _ in 0..k {
-        r = 2 * r % 13176795;
+        r = 2 * r % TURN;
     }
     r
 }
@@ -96,18 +108,18 @@ pub fn rem_turn(x: f32) -> f32
         return x;
     }
     let b = x.to_bits();
-    let power = b % 0x8000_0000 / 0x80_0000;
+    let power = b % SIGN / ONE_MORE;
     if power == 255 {
-        return x - x;
+        return x - x; // of an infinity a NaN
     }
     if power < 129 {
-        return x;
+        return x; // below 4
     }
-    let r = left_of(0x80_0000 + b % 0x80_0000, power - 129);
-    if 0x8000_0000 <= b {
-        return r as f32 * -4.76837158203125e-7;
+    let r = left_of(ONE_MORE + b % ONE_MORE, power - 129);
+    if SIGN <= b {
+        return r as f32 * -UNIT;
     }
-    r as f32 * 4.76837158203125e-7
+    r as f32 * UNIT
 }
 
 #[tactic(auto, unfolding(crate::specs::SinCos::sin_cos_small))]
@@ -143,6 +155,7 @@ pub fn sin_cos(w: f32) -> SinCos
     a
 }
 
+// The polynomial is the rule's, Abramowitz and Stegun 4.4.46: another arc cosine gives other bits.
 const C0: f32 = 1.5707963050;
 
 const C1: f32 = -0.2145988016;
@@ -179,5 +192,5 @@ pub fn acos(d: f32) -> f32
     if 0.0 <= d {
         return acos_up(d);
     }
-    3.1415927 - acos_up(-d)
+    PI - acos_up(-d)
 }

@@ -4,4 +4,4 @@ use Rattle.inverse.specs.Inverse.{backward_turn}
 use Rattle.inverse.proofs.backward_at.Given as goal
 
 abbrev pub invariant-loop-k : goal.invariant-loop-k
-invariant-loop-k l = Ran (5 - l.i) (backward_turn l.m l.x l.i) l.initial.acc (6 - l.k) l.acc
+invariant-loop-k l = Ran (5 - l.i) (backward_turn l.m l.x l.i) l.initial.rest (6 - l.k) l.rest

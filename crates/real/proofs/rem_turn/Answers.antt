@@ -22,12 +22,12 @@ pub returns-then-power-lt129 : goal.returns-then-power-lt129
 unfolding rem_turn
 returns-then-power-lt129 c = stays c.args.x (passes (fits binary32 c.args.x) c.well_formed.0.1) c.if-power-lt129.true
 
-pub returns-then-b-ge2147483648 : goal.returns-then-b-ge2147483648
+pub returns-then-b-ge-SIGN : goal.returns-then-b-ge-SIGN
 unfolding rem_turn neg of_bits
-returns-then-b-ge2147483648 c =
-    made c.args.x (passes (fits binary32 c.args.x) c.well_formed.0.1) true c.left_of-r.result (le-leb _ _ c.if-b-ge2147483648.true) c.if-power-lt129.false (ne_eqb _ _ c.if-power-eq255.false) c.left_of-r.ensures
+returns-then-b-ge-SIGN c =
+    made c.args.x (passes (fits binary32 c.args.x) c.well_formed.0.1) true c.left_of-r.result (le-leb _ _ c.if-b-ge-SIGN.true) c.if-power-lt129.false (ne_eqb _ _ c.if-power-eq255.false) c.left_of-r.ensures
 
 pub returns : goal.returns
 unfolding rem_turn of_bits
 returns c =
-    made c.args.x (passes (fits binary32 c.args.x) c.well_formed.0.1) false c.left_of-r.result (lt-leb _ _ c.if-b-ge2147483648.false) c.if-power-lt129.false (ne_eqb _ _ c.if-power-eq255.false) c.left_of-r.ensures
+    made c.args.x (passes (fits binary32 c.args.x) c.well_formed.0.1) false c.left_of-r.result (lt-leb _ _ c.if-b-ge-SIGN.false) c.if-power-lt129.false (ne_eqb _ _ c.if-power-eq255.false) c.left_of-r.ensures

@@ -15,8 +15,8 @@ pub returns-then-is_nan : goal.returns-then-is_nan
 unfolding signum
 returns-then-is_nan c = rw (is_nan_lem c.args.x (differs c.args.x ∙ sym c.is_nan.ensures.value ∙ c.if-is_nan.true)) refl
 
-pub returns-then-x-ge2147483648 : goal.returns-then-x-ge2147483648
-returns-then-x-ge2147483648 c = rw (le-leb _ _ c.if-x-ge2147483648.true) at (by_sign_bit c.args.x (passes (fits binary32 c.args.x) c.well_formed.0.1) (sym c.is_nan.ensures.value ∙ c.if-is_nan.false))
+pub returns-then-x-ge-SIGN : goal.returns-then-x-ge-SIGN
+returns-then-x-ge-SIGN c = rw (le-leb _ _ c.if-x-ge-SIGN.true) at (by_sign_bit c.args.x (passes (fits binary32 c.args.x) c.well_formed.0.1) (sym c.is_nan.ensures.value ∙ c.if-is_nan.false))
 
 pub returns : goal.returns
-returns c = rw (lt-leb _ _ c.if-x-ge2147483648.false) at (by_sign_bit c.args.x (passes (fits binary32 c.args.x) c.well_formed.0.1) (sym c.is_nan.ensures.value ∙ c.if-is_nan.false))
+returns c = rw (lt-leb _ _ c.if-x-ge-SIGN.false) at (by_sign_bit c.args.x (passes (fits binary32 c.args.x) c.well_formed.0.1) (sym c.is_nan.ensures.value ∙ c.if-is_nan.false))
