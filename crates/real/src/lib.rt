@@ -15,8 +15,8 @@ pub fn pick<T: Copy>(b: bool, x: T, y: T) -> T
     if b { x } else { y }
 }
 
-// The greater of x and 0 - x, which is exact, and +0 for a zero of either sign. The compiler makes of it a subtraction and a maximum, 5.1 ns in the tests
-// of a strain's six parts: the library's `abs`, which has two tests, took 6.1.
+// The greater of x and 0 - x, which is exact, and +0 for a zero of either sign. The compiler makes of it a subtraction and a maximum: `all_within6` of the
+// crate strain takes 8.5 ns, with the library's `abs`, which has two tests, 14.9.
 #[tactic(auto, using(crate::specs::Sign::by_subtraction))]
 pub fn abs(x: f32) -> f32
     ensures { result ≡ spec.abs x }

