@@ -1,5 +1,6 @@
-// The arithmetic under names that a program in another language can call: of each function the same definition, and nothing that the caller owes.
-// A module for each crate whose functions are exported.
+// The arithmetic under names that a program in another language can call: of each function the same definition, and nothing that the caller
+// owes. A module for each crate whose functions are exported. C has no generic function: what is one for every size below has a name for
+// each size here.
 #![tactic(auto)]
 
 mod of_real;

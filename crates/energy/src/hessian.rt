@@ -53,7 +53,8 @@ fn scaling(q: Vec3) -> [f32; 6]
     strain_rows_dual(outer_product(q, q))
 }
 
-// A mode in strain coordinates, by the scalings of the three axes.
+// A mode in strain coordinates, by the scalings of the three axes: one by one, as the parts of v are, since an array of them would be no
+// plainer to read.
 #[tactic(auto, unfolding(crate::specs::Hessian::mode_of))]
 fn mode_of(t0: &[f32; 6], t1: &[f32; 6], t2: &[f32; 6], v: Vec3) -> [f32; 6]
     ensures { result ≡ spec.mode_of t0.now t1.now t2.now v }

@@ -1,5 +1,5 @@
 // The inverse of a 6x6 matrix, column by column, by elimination with partial pivoting: in place, and only on the
-// entries that change.
+// entries that change. The loops go by index: an entry's place in the flat matrix is made of two, and a row of it is no slice.
 #![tactic(auto)]
 
 ghost use Rattle.std.specs.Prelude.{◌≡◌, ◌<◌, length, is_ok};
@@ -24,7 +24,7 @@ struct Elimination {
 #[derive(Clone, Copy)]
 struct Singular;
 
-// The row of the pivot of column j; `most` is its magnitude.
+// The row of the pivot of column j; `most` is its magnitude. The first of equal ones counts: an iterator's `max_by` gives the last.
 #[tactic(auto, using(crate::specs::Pivot::best_none, crate::specs::Pivot::best_more, crate::specs::Pivot::best_all))]
 fn pivot_row(m: &[f32; 36], j: usize) -> usize
     requires { j < 6 }
@@ -41,6 +41,7 @@ fn pivot_row(m: &[f32; 36], j: usize) -> usize
     best
 }
 
+// By index: over `chunks_exact_mut` the proof was tried and did not close, as the columns that are lent have to be joined again.
 #[tactic(auto, using(loops::specs::Loops::counted, crate::specs::Pivot::swap_all))]
 fn swap_rows(m: &mut [f32; 36], p: usize, j: usize)
     requires { (length m.old ≡ 36) × (p < 6) × (j < 6) }
@@ -51,7 +52,7 @@ fn swap_rows(m: &mut [f32; 36], p: usize, j: usize)
     }
 }
 
-// Column j below the pivot becomes the multipliers.
+// Column j below the pivot becomes the multipliers. Over the slice from j * 6 + j + 1 to j * 6 + 6 the loop would be no plainer.
 #[tactic(auto, using(loops::specs::Between::counted_from), unfolding(crate::specs::Elimination::scaled))]
 fn scale(m: &mut [f32; 36], j: usize, inv: f32)
     requires { j < 6 }

@@ -1,6 +1,6 @@
-// The steps of a Jacobi sweep, on three-by-three arrays of arrays. The pair of axes, P and Q, are const parameters: each instance has few callers and is compiled
-// with them as constants. As arguments they make a sweep take twice the time. Their bounds stand in each contract: a type that knew them would be a value
-// without bytes, handed along for them alone.
+// The steps of a Jacobi sweep, on three-by-three arrays of arrays. The pair of axes, P and Q, are const parameters: each instance has few
+// callers and is compiled with them as constants. As arguments they make a sweep take twice the time. Their bounds stand in each contract:
+// a type that knew them would be a value without bytes, handed along for them alone.
 ghost use Rattle.std.specs.Prelude.{◌≡◌, ◌<◌};
 ghost use Rattle.real.specs.Float.{◌⊕◌, ◌⊖◌, ◌⊗◌};
 ghost use Rattle.linalg.specs.Eigen as spec;

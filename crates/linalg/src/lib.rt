@@ -1,4 +1,5 @@
-// Linear algebra of the soft rows, after soft_element_linalg.rs: the eigen-decomposition of a symmetric matrix, the outer product, the cofactor matrix.
+// Linear algebra of the soft rows, after soft_element_linalg.rs: the eigen-decomposition of a symmetric matrix, the outer product, the
+// cofactor matrix.
 #![tactic(auto)]
 
 ghost use Rattle.std.specs.Prelude.{◌≡◌};

@@ -15,8 +15,8 @@ pub fn pick<T: Copy>(b: bool, x: T, y: T) -> T
     if b { x } else { y }
 }
 
-// The greater of x and 0 - x, which is exact, and +0 for a zero of either sign. The compiler makes of it a subtraction and a maximum: `all_within6` of the
-// crate strain takes 8.5 ns, with the library's `abs`, which has two tests, 14.9.
+// The greater of x and 0 - x, which is exact, and +0 for a zero of either sign. The compiler makes of it a subtraction and a maximum:
+// `all_within6` of the crate strain takes 8.5 ns, with the library's `abs`, which has two tests, 14.9.
 #[tactic(auto, using(crate::specs::Sign::by_subtraction))]
 pub fn abs(x: f32) -> f32
     ensures { result ≡ spec.abs x }
@@ -99,8 +99,8 @@ fn left_of(n: u32, k: u32) -> u32
     r
 }
 
-// x % 6.2831855, over whole numbers: a number that is no less than 4 is n·2^k units of 2^-21, and 6.2831855 is 13176795 of them. Rust's own `%` becomes a call
-// of the C library's `fmodf`, and a program that has one asks for a C library of version 2.38.
+// x % 6.2831855, over whole numbers: a number that is no less than 4 is n·2^k units of 2^-21, and 6.2831855 is 13176795 of them. Rust's own
+// `%` becomes a call of the C library's `fmodf`, and a program that has one asks for a C library of version 2.38.
 pub fn rem_turn(x: f32) -> f32
     ensures { result ≡ sine.rem_turn x }
 {
@@ -116,6 +116,7 @@ pub fn rem_turn(x: f32) -> f32
         return x; // below 4
     }
     let r = left_of(ONE_MORE + b % ONE_MORE, power - 129);
+    // f32 has no `From` of r, which it holds exactly
     if SIGN <= b {
         return r as f32 * -UNIT;
     }

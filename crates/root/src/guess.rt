@@ -1,7 +1,9 @@
-// A guess at a root, good enough that it or a neighbour of it nearly always is the root. Of its quality nothing is proved, and nothing rests on it.
+// A guess at a root, good enough that it or a neighbour of it nearly always is the root. Of its quality nothing is proved, and nothing
+// rests on it.
 ghost use Rattle.std.specs.Prelude.{◌<◌, ◌^◌};
 
-// Three coefficients, of 30, 23 and 11 bits, for each lowest bit of the power and seven highest bits of the significand after its first. Any numbers would do.
+// Three coefficients, of 30, 23 and 11 bits, for each lowest bit of the power and seven highest bits of the significand after its first.
+// Any numbers would do.
 static QUADRATICS: [u64; 256] = [
     0xb504f3bad2ab1da0,
     0xb5b99e82cfdf6d8f,
@@ -279,7 +281,7 @@ pub fn root(low: u32) -> u64
     ensures { result < 2 ^ 25 }
 {
     curve(
-        QUADRATICS[(low / 65536 % 256) as usize],
+        QUADRATICS[(low / 65536 % 256) as usize], // usize has no `From` of it
         u64::from(low % 65536),
     )
 }

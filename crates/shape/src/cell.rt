@@ -15,11 +15,12 @@ pub fn cell_edge_matrix(x: Four<Vec3>) -> Mat3
     }
 }
 
-#[tactic(auto, unfolding(crate::specs::Cell::cell_volume))]
+#[tactic(auto, unfolding(crate::specs::Cell::cell_edge_matrix, crate::specs::Cell::cell_volume))]
 pub fn cell_volume(x: Four<Vec3>) -> f32
     ensures { result ≡ spec.cell_volume x }
 {
-    (x.b - x.a).dot((x.c - x.a).cross(x.d - x.a)) / 6.0
+    let edges = cell_edge_matrix(x);
+    edges.x.dot(edges.y.cross(edges.z)) / 6.0
 }
 
 // The gradient by a particle, from the edges to the next two.

@@ -4,6 +4,9 @@ ghost use Rattle.shape.specs.Rotation as spec;
 
 use vector::{Mat3, Quat, Vec3};
 
+// A correction below this length ends the search.
+const LEAST: f32 = 16.0 * f32::EPSILON;
+
 // Columns crossed, and summed from zero, as the source does.
 #[tactic(auto, unfolding(crate::specs::Rotation::cross_sum))]
 fn cross_sum(r: Mat3, a: Mat3) -> Vec3
@@ -29,7 +32,8 @@ fn correction(a: Mat3, q: Quat) -> Vec3
     cross_sum(r, a) * (1.0 / denom)
 }
 
-// The correction o, which is w long, as a quaternion; where it is small not of length 1.
+// The correction o, which is w long, as a quaternion; where it is small not of length 1. A type for o and w would be no plainer: they are
+// taken apart at once.
 #[tactic(auto, unfolding(crate::specs::Rotation::step))]
 fn step(o: Vec3, w: f32) -> Quat
     ensures { result ≡ spec.step o w }
@@ -61,8 +65,7 @@ pub fn extract_rotation(a: Mat3, warm: Quat) -> Quat
     for _ in 0usize..8 {
         let o = correction(a, q);
         let w = o.length();
-        // 16 times f32's EPSILON
-        if w < 1.9073486e-6 {
+        if w < LEAST {
             break;
         }
         q = turned(o, w, q);

@@ -1,5 +1,5 @@
-// Vectors here, 3x3 matrices and quaternions in modules: structs of floats, by value, with the operators and methods that the Rust source uses. Each part is
-// computed in the source's order.
+// Vectors here, 3x3 matrices and quaternions in modules: structs of floats, by value, with the operators and methods that the Rust source
+// uses. Each part is computed in the source's order.
 #![tactic(auto)]
 
 pub mod matrix; // 3x3 matrices by columns
@@ -75,7 +75,8 @@ impl<T: Copy> Four<T> {
     // What f makes of each with its like in `other`.
     pub fn zip<U: Copy, V, F: Fn(T, U) -> V>(self, other: Four<U>, f: F) -> Four<V>
         requires { F.IsAlwaysCallable f }
-        ensures { (F.post f self.a other.a result.a) × (F.post f self.b other.b result.b) × (F.post f self.c other.c result.c) × (F.post f self.d other.d result.d) }
+        ensures { (F.post f self.a other.a result.a) × (F.post f self.b other.b result.b)
+            × (F.post f self.c other.c result.c) × (F.post f self.d other.d result.d) }
     {
         Four {
             a: f(self.a, other.a),
