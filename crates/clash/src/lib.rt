@@ -51,8 +51,7 @@ fn names_of(b: &[u8]) -> Names
 fn is_marked(marks: &[u32], mark: u32, id: Option<u32>) -> bool
     ensures { result ≡ is_marked marks.now mark id }
 {
-    id.and_then(|id| marks.get(id as usize))
-        .is_some_and(|m| *m == mark)
+    id.is_some_and(|id| (id as usize) < marks.len() && marks[id as usize] == mark)
 }
 
 #[tactic(auto, unfolding(crate::specs::Marks::clashing))]

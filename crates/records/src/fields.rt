@@ -11,8 +11,8 @@ ghost use Rattle.records.specs.Outcomes.{RunsTo};
 
 use crate::{Kind, Refusal, Refused, RowKind, layout};
 
-// The bytes of a record, and the offset in the frame at which they start. How many there are stands in each function's clause: with a const parameter
-// for it, as of floats' RowBytes, the proof of `run` did not close, since the check does not cover a closure or a bound Fn that knows such a parameter.
+// The bytes of a record, and the offset in the frame at which they start. How many there are stands in clauses, since the proof with a
+// const parameter for it did not close: the check covers no bound Fn that names one, as that of `run` would.
 #[derive(Clone, Copy)]
 pub struct Fields<'a> {
     pub bytes: &'a [u8],

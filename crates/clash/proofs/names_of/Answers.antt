@@ -1,5 +1,5 @@
 -- `clash::names_of` meets its contract: the id of each place, one after another. Assumes nothing.
-use Rattle.std.proofs.Common.{◌≡◌, ◌+◌, ◌*◌, ltb, rules, refl}
+use Rattle.std.proofs.Common.{◌+◌, ◌*◌, ltb, rules, refl}
 use Rattle.little_endian.specs.Bytes.{le32}
 use Rattle.loops.specs.Fill.{tabulated}
 use Rattle.clash.specs.Marks.{names_of, placed}
