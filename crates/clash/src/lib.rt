@@ -1,18 +1,17 @@
 // The clash test: in one pass, by a mark for each point.
 #![tactic(auto)]
 
-ghost use Rattle.std.specs.Prelude.{◌≡◌, [], ℕ, ◌+◌, ◌*◌, ◌≤◌, ◌<◌, length, ltb};
-ghost use Rattle.little_endian.specs.Bytes.{le32};
+ghost use Rattle.std.specs.Prelude.{◌≡◌, [], ◌≤◌, length};
 ghost use Rattle.records.specs.Answers.{outcome, Passed};
-ghost use Rattle.records.specs.Layout.{row_ids};
 ghost use Rattle.records.specs.Records.{records_tests};
 ghost use Rattle.records.specs.declared.Due as due;
 ghost use Rattle.clash.specs.Clash.{count_of, clash_tests};
-ghost use Rattle.clash.specs.Marks.{placed, names_of, is_marked, clashing, mark_with, mark_row};
+ghost use Rattle.clash.specs.Marks.{names_of, is_marked, clashing, mark_with, mark_row};
 
 use records::{Refusal, Refused, RowKind, layout};
+use std::array::from_fn;
 
-// The colour of the overflow, whose rows may name what others name.
+// The colour of the overflow, whose rows may name what others name: the frame's own number, so that a colour is no Option.
 const OVERFLOW: u16 = 65535;
 
 // A row's colour, and the ids at its four places, as far as it names them.
@@ -34,32 +33,15 @@ pub fn count_of(b: &[u8]) -> u16
     }
 }
 
-// The id at place i of a row that names count.
-#[tactic(auto, unfolding(crate::specs::Marks::placed))]
-fn id_at(b: &[u8], i: u16, count: u16) -> Option<u32>
-    requires { (i < 4) × (30 ≤ length b.now) }
-    ensures { result ≡ placed (ltb i count) (le32 b.now (row_ids + 4 * i)) }
-{
-    if i < count {
-        return Some(little_endian::get_u32(b, layout::ROW_IDS + 4 * (i as usize)));
-    }
-    None
-}
-
 #[tactic(auto, unfolding(crate::specs::Marks::names_of))]
 fn names_of(b: &[u8]) -> Names
     requires { 30 ≤ length b.now }
     ensures { result ≡ names_of b.now }
 {
-    let count = count_of(b);
+    let count = usize::from(count_of(b));
     Names {
         colour: little_endian::get_u16(b, layout::ROW_COLOUR),
-        ids: [
-            id_at(b, 0, count),
-            id_at(b, 1, count),
-            id_at(b, 2, count),
-            id_at(b, 3, count),
-        ],
+        ids: from_fn(|i| (i < count).then_some(little_endian::get_u32(b, layout::ROW_IDS + 4 * i))),
     }
 }
 
@@ -69,17 +51,14 @@ fn names_of(b: &[u8]) -> Names
 fn is_marked(marks: &[u32], mark: u32, id: Option<u32>) -> bool
     ensures { result ≡ is_marked marks.now mark id }
 {
-    match id {
-        Some(id) => (id as usize) < marks.len() && marks[id as usize] == mark,
-        None => false,
-    }
+    id.is_some_and(|id| (id as usize) < marks.len() && marks[id as usize] == mark)
 }
 
 #[tactic(auto, unfolding(crate::specs::Marks::clashing))]
 fn is_clashing(marks: &[u32], q: Names) -> bool
     ensures { result ≡ clashing marks.now q }
 {
-    let mark = (q.colour as u32) + 1;
+    let mark = u32::from(q.colour) + 1;
     q.colour != OVERFLOW && q.ids.iter().any(|id| is_marked(marks, mark, *id))
 }
 
@@ -87,6 +66,7 @@ fn is_clashing(marks: &[u32], q: Names) -> bool
 fn mark_one(marks: &mut [u32], mark: u32, id: Option<u32>)
     ensures { marks.new ≡ mark_with marks.old mark id }
 {
+    // By index: the contract of `get_mut` does not say what the slice holds after it.
     if let Some(id) = id
         && (id as usize) < marks.len()
     {
@@ -100,7 +80,7 @@ fn mark_row(marks: &mut [u32], q: Names)
 {
     if q.colour != OVERFLOW {
         for id in q.ids {
-            mark_one(marks, (q.colour as u32) + 1, id);
+            mark_one(marks, u32::from(q.colour) + 1, id);
         }
     }
 }
@@ -110,8 +90,10 @@ pub fn clash_test(n: usize, k: usize, s: &[u8], at: usize) -> Result<(), Refused
     requires { (n ≤ 4096) × Passed (records_tests due.Due.Row k s.now at 0) }
     ensures { result ≡ outcome (clash_tests n k s.now at []) }
 {
+    // On the stack: check is called from C, with fixed memory and without an allocator.
     let mut all = [0u32; 4096];
     let marks = &mut all[..n];
+    // An iterator of places and records would have to test again what is known here, that each record is whole.
     let mut off = at;
     for _ in 0..k {
         let b = records::record_at(s, off);

@@ -12,11 +12,12 @@ pub mod row_bytes;
 
 use little_endian::{get_f32, get_u32};
 use places::Ids;
+use std::array::from_fn;
 use vector::{Four, Mat3, Quat, Vec3};
 
 // ---- read from any bytes
 
-// The vector of a point.
+// The vector of a point. Beside `Field::get`, since a point's floats may be of any pattern.
 #[tactic(auto, unfolding(crate::specs::Fields::vec3_at))]
 pub fn vec3_at(b: &[u8], k: usize) -> Vec3
     requires { k + 12 ≤ length b.now }
@@ -72,14 +73,17 @@ pub trait Element: Field {
     ghost counted: { Self.floats ≡ FLOATS };
 }
 
+// The one pattern of a NaN's that is written.
+pub const NAN: u32 = 0x7fc0_0000;
+
 // A test for a NaN's one pattern gives what is there already, so that nothing is left of it in the program, where a test for all patterns
 // costs as much as the rest of the reading.
 fn of_written(n: u32) -> f32
     requires { Written n }
     ensures { result ≡ of_bits binary32 n }
 {
-    if n == 2143289344 {
-        return 0.0 / 0.0;
+    if n == NAN {
+        return f32::NAN;
     }
     f32::from_bits(n)
 }
@@ -225,16 +229,12 @@ impl<const N: usize> Field for [f32; N] {
     ghost after = { spec.put_floats N };
 
     fn get(b: &[u8], k: usize) -> [f32; N] {
-        let mut v = [0.0f32; N];
-        for i in 0..N {
-            v[i] = f32::get(b, k + 4 * i);
-        }
-        v
+        from_fn(|i| f32::get(b, k + 4 * i))
     }
 
     fn put(self, b: &mut [u8], k: usize) {
-        for i in 0..N {
-            self[i].put(b, k + 4 * i);
+        for (i, x) in self.iter().enumerate() {
+            x.put(b, k + 4 * i);
         }
     }
 }

@@ -15,6 +15,7 @@ fn records_test(due: Due, k: usize, s: &[u8], at: usize) -> Result<usize, Refuse
     ensures refusal { refusal_of result ≡ outcome (records_tests due k s.now at 0) }
     ensures end { IfOk result (λ end. (end ≡ end_of k s.now at) × (end ≤ length s.now)) }
 {
+    // No iterator of records: that one is whole is known only once it is tested.
     let mut off = at;
     let mut colour = 0;
     for _ in 0..k {

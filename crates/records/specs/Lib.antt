@@ -6,3 +6,4 @@ pub mod Records
 pub mod Kinds
 pub mod Outcomes
 pub mod AllFinite
+pub mod Text

@@ -11,7 +11,8 @@ ghost use Rattle.records.specs.Outcomes.{RunsTo};
 
 use crate::{Kind, Refusal, Refused, RowKind, layout};
 
-// The bytes of a record, and the offset in the frame at which they start.
+// The bytes of a record, and the offset in the frame at which they start. How many there are stands in clauses, since the proof with a
+// const parameter for it did not close: the check covers no bound Fn that names one, as that of `run` would.
 #[derive(Clone, Copy)]
 pub struct Fields<'a> {
     pub bytes: &'a [u8],
@@ -20,7 +21,7 @@ pub struct Fields<'a> {
 }
 
 impl Fields<'_> {
-    // ---- single tests, of the field at byte k
+    // ---- single tests, of the field at byte k. One line each, named as the rules of specs/Fields are, beside which they are read.
 
     #[tactic(auto, unfolding(crate::specs::Answers::outcome, crate::specs::Answers::from))]
     fn refuse(&self, bad: bool, why: Refusal, k: usize) -> Result<(), Refused>
@@ -120,6 +121,7 @@ impl Fields<'_> {
         let colour = little_endian::get_u16(self.bytes, layout::ROW_COLOUR);
         self.refuse(colour < c, Refusal::ColourFalls, layout::ROW_COLOUR)
     }
+
     // ---- runs of floats
 
     // Whether n floats from byte k on are all finite. There is no way out before the last, so that the compiler can test several at once.
@@ -194,7 +196,7 @@ impl Fields<'_> {
 
     #[tactic(auto, using(crate::proofs::Firsts::outcome_from_append), unfolding(crate::specs::Fields::scalar_codes))]
     fn scalar_codes(&self) -> Result<(), Refused>
-        requires { 182 ≤ length self.now.bytes.now }
+        requires { 14 ≤ length self.now.bytes.now }
         ensures { result ≡ outcome_from self.now.start (spec.scalar_codes self.now.bytes.now) }
     {
         self.limit16(layout::SCALAR_COUNT, 4)?;
@@ -225,7 +227,7 @@ impl Fields<'_> {
 
     #[tactic(auto, using(crate::proofs::Firsts::outcome_from_append), unfolding(crate::specs::Fields::elastic_codes))]
     fn elastic_codes(&self, last: u16) -> Result<(), Refused>
-        requires { 618 ≤ length self.now.bytes.now }
+        requires { 14 ≤ length self.now.bytes.now }
         ensures { result ≡ outcome_from self.now.start (spec.elastic_codes self.now.bytes.now last) }
     {
         self.code(layout::ROW_STRAINED, 1)?;

@@ -1,12 +1,13 @@
 // One record of a frame: what is due, and the tests of its fields.
 #![tactic(auto)]
 
-ghost use Rattle.std.specs.Prelude.{◌≡◌, ◌+◌, ◌≤◌, length, is_some, IfSome, IfOk};
+ghost use Rattle.std.specs.Prelude.{◌≡◌, ◌+◌, ◌≤◌, length, Some, is_some, IfSome, IfOk};
 ghost use Rattle.little_endian.specs.Bytes.{le16, le32};
 ghost use Rattle.records.specs.Answers.{refuse, number_of, answer_of, outcome};
 ghost use Rattle.records.specs.Kinds.{number_of_kind, length_of};
 ghost use Rattle.records.specs.Layout.{kind_at};
 ghost use Rattle.records.specs.Outcomes.{refusal_of};
+ghost use Rattle.records.specs.Text.{refused_text};
 ghost use Rattle.records.specs.Records.{is_due, record_length, record_at, shape, record_tests};
 
 mod fields;
@@ -15,6 +16,7 @@ pub mod layout;
 
 use fields::Fields;
 pub use kinds::{Kind, RowKind, UnknownKind};
+use std::fmt;
 
 // Why a frame is refused, in the order of document 01's table.
 #[derive(Clone, Copy, Debug, PartialEq, Eq)]
@@ -44,6 +46,16 @@ impl Refusal {
 pub struct Refused {
     pub why: Refusal,
     pub place: usize,
+}
+
+impl fmt::Display for Refused {
+    ghost output = { λ refused. Some (refused_text refused) };
+
+    fn fmt<W: fmt::Write>(&self, f: &mut fmt::Formatter<W>) -> fmt::Result {
+        let number = self.why.number();
+        let place = self.place;
+        write!(f, "refused {number} at {place}")
+    }
 }
 
 // What check and run answer to C: the refusal's number and place, 0 and 0 for a frame that is accepted.
@@ -79,7 +91,7 @@ pub enum Due {
     Row,
 }
 
-// Refused so, at that place, where the test finds it bad.
+// Err of this refusal, at this place, where a test found something bad; else Ok.
 #[tactic(auto, unfolding(crate::specs::Answers::outcome))]
 pub fn refuse(bad: bool, why: Refusal, place: usize) -> Result<(), Refused>
     ensures { result ≡ outcome (refuse why place bad) }
@@ -102,6 +114,7 @@ fn due_kind(due: Due, number: u16, len: u32) -> Option<Kind>
     }
 }
 
+// No frame is read by it: it tells a caller whether a kind and a length may stand at a place, and stays as a promise.
 pub fn is_due(due: Due, kind: u16, len: u32) -> bool
     ensures { result ≡ is_due due kind len }
 {

@@ -1,19 +1,28 @@
 -- A record that stands alone is a record in its frame. Assumes nothing.
 use Prim.Native.Nat.{ℕ, zero, suc, ◌+◌, ◌*◌, ◌-◌, ◌/◌, ◌%◌, ◌≤◌, ◌<◌}
 use mathlib.Core.Path.{◌≡◌, refl, sym, ap, subst, ◌∙◌}
-use mathlib.Core.Bool.{Bool, true, false, cond, ◌&&◌, ◌||◌}
-use mathlib.Core.List.{List}
+use mathlib.Core.Bool.{Bool, true, false, cond, not, ◌&&◌, ◌||◌}
+use mathlib.Core.List.{List, [], ◌∷◌, ◌++◌}
 use native.Mathlib.Omega.{arith}
-use lib.Dec.{T, eqb, leb}
+use native.Mathlib.Decide.{dec_lt}
+use lib.Dec.{T, eqb, leb, ltb}
+use lib.Ieee.{binary32, of_bits, is_nan}
 use lib.ListN.{length}
-use borrow.Author.Tests.{eqb-true, eqb-false, leb-true, lt-leb}
+use borrow.Author.Tests.{eqb-true, eqb-false, ne_eqb, leb-true, lt-leb, le-leb, lt-ltb, le-ltb}
+use Rattle.std.specs.List.{list_all, range_with_len}
+use Rattle.std.proofs.lemmas.List.Folds.{list_all-append}
 use Rattle.little_endian.specs.Bytes.{le16, le32}
+use Rattle.little_endian.proofs.Floats.{nan_bits_lem}
 use Rattle.records.specs.Records.{record_length}
 use Rattle.records.proofs.ByKind.{and_both}
 use Rattle.floats.specs.Written.{Written, AllWritten}
-use Rattle.records.specs.Kinds.{row_kind}
+use Rattle.records.specs.Kinds.{number_of_kind, length_of, due_as}
+use Rattle.records.specs.declared.kinds.Kind.{Kind}
+use Rattle.records.specs.declared.kinds.Kind.TheVariants.{Head, Point, Row}
+use Rattle.records.specs.declared.Due.TheVariants as due
+use Rattle.records.specs.declared.kinds.RowKind.{RowKind}
 use Rattle.records.specs.declared.kinds.RowKind.TheVariants.{Scalar, Corotational, NeoHookean}
-use Rattle.row.specs.Widths.{row_length, width, Whole}
+use Rattle.row.specs.Widths.{row_length, Whole}
 use Rattle.rows_ffi.specs.Record.{is_record, is_written, all_written, is_row}
 
 written_is : (n : ℕ) → is_written n ≡ true → Written n
@@ -78,11 +87,82 @@ module _ (s : List ℕ) where
   unfolding is_record
   short h = rw (lt-leb 6 (length s) h) refl
 
-pub width_is : (n : ℕ) → width (row_kind n) ≡ row_length n
-unfolding row_length
-width_is n = go (eqb n 3) (eqb n 4)
+-- ---- what the code tests
+
+-- a pattern is no NaN's or the one that is written
+pub by_nan : (n : ℕ) → is_written n ≡ (not (is_nan (of_bits binary32 n)) || eqb n 2143289344)
+unfolding is_written
+by_nan n = rw (nan_bits_lem n) (ap (λ (t : Bool). t || eqb n 2143289344) (not_above (n % 2147483648) 2139095040))
   where
-    go : (t u : Bool) → width (cond t Scalar (cond u Corotational NeoHookean)) ≡ cond t 182 (cond u 618 678)
-    go true u = refl
-    go false true = refl
-    go false false = refl
+    not_above : (a b : ℕ) → leb a b ≡ not (ltb b a)
+    not_above a b = elim (dec_lt b a) [
+      | yes h ↦ lt-leb a b h ∙ sym (ap not (lt-ltb b a h))
+      | no h ↦ le-leb a b (omega arith) ∙ sym (ap not (le-ltb b a (omega arith)))
+    ]
+
+-- n floats, one after another
+pub each_is : (n : ℕ) (s : List ℕ) → list_all (λ i. is_written (le32 s (30 + 4 * i))) (range_with_len 0 n) ≡ all_written n s
+unfolding all_written
+each_is zero s = refl
+each_is (suc n) s =
+    ap (list_all (λ i. is_written (le32 s (30 + 4 * i)))) (let e : 0 + n ≡ n = omega arith in one_more 0 n ∙ ap (λ (k : ℕ). range_with_len 0 n ++ (k ∷ [])) e)
+    ∙ list_all-append (λ i. is_written (le32 s (30 + 4 * i))) (range_with_len 0 n) (n ∷ [])
+    ∙ last (list_all (λ i. is_written (le32 s (30 + 4 * i))) (range_with_len 0 n)) (all_written n s) (is_written (le32 s (30 + 4 * n))) (each_is n s)
+  where
+    one_more : (a n : ℕ) → range_with_len a (suc n) ≡ range_with_len a n ++ ((a + n) ∷ [])
+    one_more a zero = let e : a ≡ a + 0 = omega arith in ap (◌∷ []) e
+    one_more a (suc n) = let e : a + 1 + n ≡ a + suc n = omega arith in ap (a ∷◌) (one_more (a + 1) n ∙ ap (λ (k : ℕ). range_with_len (a + 1) n ++ (k ∷ [])) e)
+
+    last : (t u b : Bool) → t ≡ u → (t && (b && true)) ≡ (u && b)
+    last true u true h = rw (← h) refl
+    last true u false h = rw (← h) refl
+    last false u b h = rw (← h) refl
+
+four_more : (a b : ℕ) → leb a b ≡ leb (4 + a) (4 + b)
+four_more a b = elim (dec_lt b a) [
+  | yes h ↦ lt-leb a b h ∙ sym (lt-leb (4 + a) (4 + b) (omega arith))
+  | no h ↦ le-leb a b (omega arith) ∙ sym (le-leb (4 + a) (4 + b) (omega arith))
+]
+
+-- a row's kind, by its number
+module _ (s : List ℕ) where
+  room : (t : Bool) (a : ℕ) → (t && leb a (le32 s 0)) ≡ ((t && true) && leb (4 + a) (4 + le32 s 0))
+  room true a = four_more a (le32 s 0)
+  room false a = refl
+
+  pub of_kind : (k : Kind) → 6 ≤ length s → number_of_kind k ≡ le16 s 4 → due_as k ≡ due.Row → (eqb (4 + le32 s 0) (length s) && leb (length_of k) (le32 s 0)) ≡ is_record s
+  unfolding is_record row_length
+  of_kind Head l h d = cc
+  of_kind Point l h d = cc
+  of_kind (Row Scalar) l h d = rw (le-leb 6 (length s) l, ← h) (room (eqb (4 + le32 s 0) (length s)) 178)
+  of_kind (Row Corotational) l h d = rw (le-leb 6 (length s) l, ← h) (room (eqb (4 + le32 s 0) (length s)) 614)
+  of_kind (Row NeoHookean) l h d = rw (le-leb 6 (length s) l, ← h) (room (eqb (4 + le32 s 0) (length s)) 674)
+
+  no_row : ((k : RowKind) → number_of_kind (Row k) ≡ le16 s 4 → ⊥) → false ≡ is_record s
+  unfolding is_record
+  no_row h =
+      rw (ne_eqb (le16 s 4) 3 (λ z. h Scalar (sym z)), ne_eqb (le16 s 4) 4 (λ z. h Corotational (sym z)), ne_eqb (le16 s 4) 5 (λ z. h NeoHookean (sym z)))
+      (none (leb 6 (length s)) (eqb (4 + le32 s 0) (length s)) _)
+    where
+      none : (a b c : Bool) → false ≡ cond a ((b && false) && c) false
+      none true true c = refl
+      none true false c = refl
+      none false b c = refl
+
+  pub of_no_row : (k : Kind) → number_of_kind k ≡ le16 s 4 → (due_as k ≡ due.Row → ⊥) → false ≡ is_record s
+  of_no_row Head h d = no_row (λ j e. apart j (omega (arith, h, e)))
+    where
+      apart : (j : RowKind) → number_of_kind (Row j) ≡ 1 → ⊥
+      apart Scalar e = omega arith
+      apart Corotational e = omega arith
+      apart NeoHookean e = omega arith
+  of_no_row Point h d = no_row (λ j e. apart j (omega (arith, h, e)))
+    where
+      apart : (j : RowKind) → number_of_kind (Row j) ≡ 2 → ⊥
+      apart Scalar e = omega arith
+      apart Corotational e = omega arith
+      apart NeoHookean e = omega arith
+  of_no_row (Row j) h d = absurd (d refl)
+
+  pub of_no_kind : ((k : Kind) → number_of_kind k ≡ le16 s 4 → ⊥) → false ≡ is_record s
+  of_no_kind h = no_row (λ j. h (Row j))

@@ -5,7 +5,7 @@ ghost use Rattle.rows_ffi.specs.Mirrors.{as_held, as_holds, as_lost, lost_of, as
 use c_types::FourVectors;
 use vector::{Four, Vec3};
 
-// What a place holds, where it is named.
+// What a place holds, where it is named. C has no Option and no enum with a conversion.
 #[repr(C)]
 #[derive(Clone, Copy)]
 pub struct Held {
@@ -30,7 +30,7 @@ pub struct Gradients {
     pub error: f32,
 }
 
-// What each place is to lose, where the bytes are a row's record; zeros otherwise.
+// What each place is to lose, where the bytes are a row's record; zeros otherwise. C has no Option.
 #[repr(C)]
 #[derive(Clone, Copy)]
 pub struct Lost {

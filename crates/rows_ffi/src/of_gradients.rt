@@ -17,6 +17,7 @@ pub extern "C" fn rt_dihedral_gradients(pos: FourVectors, rest: f32) -> Gradient
     gradients::dihedral::dihedral_gradients(pos.into(), rest).into()
 }
 
+// The kind is its number: C has no enum with a conversion.
 #[unsafe(no_mangle)]
 pub extern "C" fn rt_scalar_compute_gradients(
     kind: u32,

@@ -1,22 +1,12 @@
 // The exports of the crate `row`: the phases of a row of any kind, on the bytes of its record as a frame has them. A caller's bytes may be
 // anything: those that are no row's record are left alone, and the answer says so.
 ghost use Rattle.std.specs.Prelude.{◌≡◌, ◌+◌, ◌*◌, ◌≤◌, length};
-ghost use Rattle.row.specs.Widths.{width};
+ghost use Rattle.little_endian.specs.Bytes.{le32};
 ghost use Rattle.rows_ffi.specs.Mirrors.{as_holds, as_lost};
 ghost use Rattle.rows_ffi.specs.Record as spec;
 
 use crate::mirrors::{Holds, Lost};
-use records::{RowKind, layout};
-
-fn row_length(kind: RowKind) -> usize
-    ensures { result ≡ width kind }
-{
-    match kind {
-        RowKind::Scalar => layout::SCALAR_END,
-        RowKind::Corotational => layout::CORO_END,
-        RowKind::NeoHookean => layout::NEO_END,
-    }
-}
+use records::{Due, Kind, layout};
 
 // Whether the bytes are a record, whole: its length says so, it has a row's kind, and room for the fields of that kind.
 fn is_record(b: &[u8]) -> bool
@@ -25,19 +15,20 @@ fn is_record(b: &[u8]) -> bool
     if b.len() < 6 {
         return false;
     }
-    let number = little_endian::get_u16(b, layout::KIND_AT);
-    let n = 4 + (little_endian::get_u32(b, 0) as usize);
-    (n == b.len())
-        & ((number == 3) | (number == 4) | (number == 5))
-        & (row_length(RowKind::of(b)) <= n)
+    let Ok(kind) = Kind::try_from(little_endian::get_u16(b, layout::KIND_AT)) else {
+        return false;
+    };
+    let n = little_endian::get_u32(b, 0);
+    kind.due() == Due::Row && 4 + (n as usize) == b.len() && kind.length() <= n
 }
 
-// Whether a pattern is no NaN's but the one that is written.
-#[tactic(auto, unfolding(crate::specs::Record::is_written))]
-fn is_written(n: u32) -> bool
-    ensures { result ≡ spec.is_written n }
+// Whether the float at `at` is no NaN, or a NaN by the one pattern that is written.
+#[tactic(auto, using(crate::proofs::Alone::by_nan))]
+fn is_written(b: &[u8], at: usize) -> bool
+    requires { at + 4 ≤ length b.now }
+    ensures { result ≡ spec.is_written (le32 b.now at) }
 {
-    (n % 2147483648 <= 2139095040) | (n == 2143289344)
+    !little_endian::is_nan_at(b, at) || little_endian::get_u32(b, at) == floats::NAN
 }
 
 // Whether n floats from the first of a row on are.
@@ -45,11 +36,7 @@ fn all_written(b: &[u8], n: usize) -> bool
     requires { 30 + 4 * n ≤ length b.now }
     ensures { result ≡ spec.all_written n b.now }
 {
-    let mut all = true;
-    for i in 0..n {
-        all = all & is_written(little_endian::get_u32(b, layout::ROW_POS + 4 * i));
-    }
-    all
+    (0..n).all(|i| is_written(b, layout::ROW_POS + 4 * i))
 }
 
 // Whether the bytes are one row's record, with floats as they are written.

@@ -4,9 +4,9 @@ use lib.Ieee.{div, of_bits}
 use Rattle.floats.proofs.Written.{the_nan, no_nan}
 use Rattle.floats.proofs.of_written.Goals as goal
 
-pub returns-then-n-eq2143289344 : goal.returns-then-n-eq2143289344
+pub returns-then-n-eq-NAN : goal.returns-then-n-eq-NAN
 unfolding div of_bits
-returns-then-n-eq2143289344 c = sym (the_nan _ c.if-n-eq2143289344.true)
+returns-then-n-eq-NAN c = sym (the_nan _ c.if-n-eq-NAN.true)
 
 pub float_from_bits-result : goal.float_from_bits-result
-float_from_bits-result c = no_nan _ c.requires c.if-n-eq2143289344.false
+float_from_bits-result c = no_nan _ c.requires c.if-n-eq-NAN.false

@@ -2,8 +2,6 @@
 use Rattle.std.proofs.Common.{refl, sym, ap, ◌∙◌, Some}
 use Rattle.vector.specs.declared.Vec3.{Vec3}
 use Rattle.vector.specs.declared.Four.{Four}
-use Rattle.places.specs.Places.{Holds}
-use Rattle.stored.specs.Phases.{warm_row, warm_loss}
 use Rattle.rows_ffi.specs.Mirrors.{lost_of}
 use Rattle.rows_ffi.specs.Record.{warmed, warm_lost}
 use Rattle.rows_ffi.proofs.Alone.{whole}
