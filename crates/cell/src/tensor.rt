@@ -110,8 +110,8 @@ pub fn weighted(c: Four<Vec3>, im: Masses) -> Four<Vec3>
 
 // ---- the effective-mass block
 
-// One entry. A delta of 0 multiplies too: 0 times an infinity is a NaN, and a sum that starts at -0 becomes +0. Eight numbers, since it is the
-// sum of the Rust, written out: a struct of them would be made for each of its six entries and taken apart here.
+// One entry. A delta of 0 multiplies too: 0 times an infinity is a NaN, and a sum that starts at -0 becomes +0. Eight numbers, since it is
+// the sum of the Rust, written out: a struct of them would be made for each of its six entries and taken apart here.
 #[tactic(auto, unfolding(crate::specs::Columns::quarter))]
 fn quarter(ik: f32, il: f32, jk: f32, jl: f32, gik: f32, gil: f32, gjk: f32, gjl: f32) -> f32
     ensures { result ≡ columns.quarter ik il jk jl gik gil gjk gjl }

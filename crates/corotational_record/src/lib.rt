@@ -39,16 +39,16 @@ fn springs_of(b: Bytes) -> Springs
     }
 }
 
-// With f the deformation gradient, and rot and `inverted` those of the same update.
+// With f the deformation gradient of the same update.
 #[tactic(auto, unfolding(crate::specs::Parts::volume_anew, cell_record::specs::Rows::strain_rows,))]
-fn volume_anew(b: Bytes, rot: Mat3, inverted: bool, f: Mat3) -> Volume
-    ensures { result ≡ volume_anew rot inverted f b.entry.bytes.now }
+fn volume_anew(b: Bytes, pose: &Pose, f: Mat3) -> Volume
+    ensures { result ≡ volume_anew pose.now.rot_mat pose.now.inverted f b.entry.bytes.now }
 {
     let inv_rest = b.get(layout::ELASTIC_INV_REST_MATRIX);
-    let rows = strain_rows(b.at_least(), rot);
+    let rows = strain_rows(b.at_least(), pose.rot_mat);
     let springs = springs_of(b);
     let k = compliance_of(b.at_least());
-    corotational::volumetric::update_volume(rows, inv_rest, springs, k, inverted, f)
+    corotational::volumetric::update_volume(rows, inv_rest, springs, k, pose.inverted, f)
 }
 
 // What an update assigns.
@@ -67,7 +67,7 @@ pub fn updated(b: Bytes, held: Holds) -> Update
     let pos = cell_record::pos_anew(shared, held);
     let f = cell_record::deformation_anew(shared, pos);
     let pose = cell_record::posed_anew(shared, pos, f);
-    let volume = volume_anew(b, pose.rot_mat, pose.inverted, f);
+    let volume = volume_anew(b, &pose, f);
     Update { pose, volume }
 }
 

@@ -70,14 +70,8 @@ pub fn update_row(b: &mut [u8], held: Holds, least: f32)
             corotational_record::put_updated(b, u, least);
         }
         RowKind::NeoHookean => {
-            let row = RowBytes { bytes: b };
-            let u = neo_hookean_record::updated(row, held);
-            if neo_hookean_record::is_kept(row, u) {
-                neo_hookean_record::put_kept(b, u, least);
-            } else {
-                let k = neo_hookean_record::renewed(row, u);
-                neo_hookean_record::put_renewed(b, u, k, least);
-            }
+            let u = neo_hookean_record::updated(RowBytes { bytes: b }, held);
+            neo_hookean_record::put_updated(b, &u, least);
         }
     }
 }

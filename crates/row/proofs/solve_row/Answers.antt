@@ -1,7 +1,11 @@
 -- `row::solve_row` meets its contract: what is read of the record and what is put into it are the phase of its kind. Assumes nothing.
-use Rattle.std.proofs.Common.{arith}
+use Rattle.std.proofs.Common.{refl, arith}
 use Rattle.records.specs.declared.kinds.RowKind.TheVariants.{Scalar, Corotational, NeoHookean}
-use Rattle.row.proofs.ByKind.{long_row, room, solve_scalar, solve_corotational, solve_neo}
+use Rattle.rows.specs.Row.{Constraint}
+use Rattle.rows.specs.Step.{solve_of}
+use Rattle.stored.specs.Put.{put_impulses, solve_constraint}
+use Rattle.stored.specs.Phases.{solve_row, solve_loss}
+use Rattle.row.proofs.ByKind.{long_row, room, phase_is, put_impulse, put_solved}
 use Rattle.row.proofs.solve_row.Goals as goal
 
 pub of-requires : goal.of-requires
@@ -10,26 +14,26 @@ of-requires c = omega (arith, long_row _ _ c.requires.wide)
 pub invariant_of-solved : goal.invariant_of-solved
 invariant_of-solved c = record { long = room _ c.requires c.of.ensures Scalar c.in-Scalar.is; written = c.requires.written }
 
-pub returns-in-Scalar-clause-anew : goal.returns-in-Scalar-clause-anew
-returns-in-Scalar-clause-anew c = (solve_scalar _ c.of.ensures _ c.in-Scalar.is c.solved-d.ensures c.put_impulse.ensures.0).0
-
-pub returns-in-Scalar-clause-loss : goal.returns-in-Scalar-clause-loss
-returns-in-Scalar-clause-loss c = (solve_scalar _ c.of.ensures _ c.in-Scalar.is c.solved-d.ensures c.put_impulse.ensures.0).1
+pub returns-in-Scalar : goal.returns-in-Scalar
+unfolding solve_row solve_loss solve_of solve_constraint
+returns-in-Scalar c =
+    let w = phase_is _ c.of.ensures (λ (q : Constraint). solve_of q c.args.vel) solve_constraint Scalar c.in-Scalar.is put_impulse c.solved-d.ensures c.put_impulse.ensures.0 refl refl in
+    record { anew = w.0; written = c.put_impulse.ensures.1 c.requires.written; loss = w.1 }
 
 pub invariant_of-solved-in-Corotational : goal.invariant_of-solved-in-Corotational
 invariant_of-solved-in-Corotational c = record { long = room _ c.requires c.of.ensures Corotational c.in-Corotational.is; written = c.requires.written }
 
-pub returns-in-Corotational-clause-anew : goal.returns-in-Corotational-clause-anew
-returns-in-Corotational-clause-anew c = (solve_corotational _ c.of.ensures _ c.in-Corotational.is c.solved-d-in-Corotational.ensures c.put_impulses.ensures.0).0
-
-pub returns-in-Corotational-clause-loss : goal.returns-in-Corotational-clause-loss
-returns-in-Corotational-clause-loss c = (solve_corotational _ c.of.ensures _ c.in-Corotational.is c.solved-d-in-Corotational.ensures c.put_impulses.ensures.0).1
+pub returns-in-Corotational : goal.returns-in-Corotational
+unfolding solve_row solve_loss solve_of solve_constraint
+returns-in-Corotational c =
+    let w = phase_is _ c.of.ensures (λ (q : Constraint). solve_of q c.args.vel) solve_constraint Corotational c.in-Corotational.is put_impulses c.solved-d-in-Corotational.ensures c.put_impulses.ensures.0 refl refl in
+    record { anew = w.0; written = c.put_impulses.ensures.1 c.requires.written; loss = w.1 }
 
 pub invariant_of-solved-in-NeoHookean : goal.invariant_of-solved-in-NeoHookean
 invariant_of-solved-in-NeoHookean c = record { long = room _ c.requires c.of.ensures NeoHookean c.in-NeoHookean.is; written = c.requires.written }
 
-pub returns-in-NeoHookean-clause-anew : goal.returns-in-NeoHookean-clause-anew
-returns-in-NeoHookean-clause-anew c = (solve_neo _ c.of.ensures _ c.in-NeoHookean.is c.solved-d-in-NeoHookean.ensures c.put_solved.ensures.0).0
-
-pub returns-in-NeoHookean-clause-loss : goal.returns-in-NeoHookean-clause-loss
-returns-in-NeoHookean-clause-loss c = (solve_neo _ c.of.ensures _ c.in-NeoHookean.is c.solved-d-in-NeoHookean.ensures c.put_solved.ensures.0).1
+pub returns-in-NeoHookean : goal.returns-in-NeoHookean
+unfolding solve_row solve_loss solve_of solve_constraint
+returns-in-NeoHookean c =
+    let w = phase_is _ c.of.ensures (λ (q : Constraint). solve_of q c.args.vel) solve_constraint NeoHookean c.in-NeoHookean.is put_solved c.solved-d-in-NeoHookean.ensures c.put_solved.ensures.0 refl refl in
+    record { anew = w.0; written = c.put_solved.ensures.1 c.requires.written; loss = w.1 }
