@@ -60,7 +60,7 @@ pub fn posed_anew(b: ElasticBytes, pos: Four<Vec3>, f: Mat3) -> Pose
     cell::update::posed(&caps, warm, pos, f)
 }
 
-#[tactic(auto, unfolding(cell::specs::Cell::update_pose, stored::specs::Read::cell_of, stored::specs::Read::pose_of, crate::specs::Anew::pos_anew, crate::specs::Anew::deformation_anew, crate::specs::Anew::posed_anew,))]
+#[tactic(auto, using(crate::proofs::Posed::pose_is))]
 pub fn pose_anew(b: ElasticBytes, held: Holds) -> Pose
     ensures { result ≡ cell.update_pose (cell_of b.entry.bytes.now) (pose_of b.entry.bytes.now) held }
 {
@@ -146,8 +146,8 @@ pub fn compliance_of(b: ElasticBytes) -> Compliance
     }
 }
 
-// The block's inverse times a residual: read and multiplied in one function, which both kinds call, since the product would lose its vectors if
-// it were compiled into a solve.
+// The block's inverse times a residual: read and multiplied in one function, which both kinds call, since the product would lose its
+// vectors if it were compiled into a solve.
 #[inline(never)]
 pub fn eased_at(b: ElasticBytes, residual: &[f32; 6]) -> [f32; 6]
     ensures { result ≡ mat_vec (compliance_of b.entry.bytes.now).inv_a residual.now }

@@ -58,7 +58,7 @@ pub struct Update {
     pub volume: Volume,
 }
 
-#[tactic(auto, unfolding(corotational::specs::Row::update, stored::specs::Read::cell_of, stored::specs::Read::pose_of, stored::specs::Read::corotational_of, cell_record::specs::Anew::pos_anew, cell_record::specs::Anew::deformation_anew, cell_record::specs::Anew::posed_anew, crate::specs::Parts::volume_anew,))]
+#[tactic(auto, using(crate::proofs::Parted::update_is))]
 pub fn updated(b: Bytes, held: Holds) -> Update
     ensures pose { result.pose ≡ (c.update (corotational_of b.entry.bytes.now) held).pose }
     ensures volume { result.volume ≡ (c.update (corotational_of b.entry.bytes.now) held).volume }
@@ -95,7 +95,7 @@ pub fn put_updated(b: &mut [u8], u: Update, least: f32)
 
 // ---- warm start
 
-#[tactic(auto, unfolding(corotational::specs::Row::warmstart, stored::specs::Read::cell_of, stored::specs::Read::pose_of, stored::specs::Read::volume_of, stored::specs::Read::corotational_of, floats::specs::Fields::four_at, cell_record::specs::Rows::strain_rows,))]
+#[tactic(auto, using(crate::proofs::Parted::warmstart_is))]
 pub fn warmed(b: Bytes, coeff: f32) -> Solved<Impulses>
     ensures { result ≡ c.warmstart (corotational_of b.entry.bytes.now) coeff }
 {
@@ -134,7 +134,7 @@ fn strain_step(b: Bytes, rows: StrainRows, impulse: &[f32; 6], vel: Holds) -> [f
     cell_record::eased_at(b.at_least(), &residual)
 }
 
-#[tactic(auto, unfolding(corotational::specs::Row::solve, corotational::specs::Corotational::solve_corotational, stored::specs::Read::cell_of, stored::specs::Read::pose_of, stored::specs::Read::springs_of, stored::specs::Read::corotational_of, cell_record::specs::Rows::strain_rows, crate::specs::Parts::strain_step_at,))]
+#[tactic(auto, using(crate::proofs::Parted::solve_is))]
 pub fn solved(b: Bytes, vel: Holds) -> Solved<Impulses>
     ensures { result ≡ c.solve (corotational_of b.entry.bytes.now) vel }
 {

@@ -1,9 +1,5 @@
 -- The update of a neo-Hookean row is made of its parts: where the block is kept it is not put, where it is renewed it is. Assumes nothing.
-use Prim.Native.Nat.{ℕ}
-use mathlib.Core.Path.{◌≡◌, refl, ap, ◌∙◌}
-use mathlib.Core.Bool.{Bool, true, false}
-use mathlib.Core.List.{List}
-use lib.Ieee.{Float}
+use Rattle.std.proofs.Common.{◌≡◌, refl, ap, ◌∙◌, ℕ, Bool, true, false, List, Float}
 use Rattle.places.specs.Places.{Holds}
 use Rattle.records.specs.Layout as at
 use Rattle.cell.specs.Cell.{is_strained}
@@ -11,7 +7,7 @@ use Rattle.neo_hookean.specs.NeoHookean.{renewed, update_block}
 use Rattle.neo_hookean.specs.Row.{update}
 use Rattle.stored.specs.Read.{cell_of, material_of, stiffness_of, neo_hookean_of}
 use Rattle.stored.specs.Put.{put_flag, put_renewed, put_neo_hookean}
-use Rattle.neo_hookean_record.specs.Parts.{energy_anew, dt_grad_anew, is_kept, update_anew, block_anew, put_update}
+use Rattle.neo_hookean_record.specs.Parts.{is_kept, update_anew, block_anew, put_update}
 use Rattle.neo_hookean_record.specs.declared.Update.{Update}
 
 module _ (least : Float) (held : Holds) (b : List ℕ) where
@@ -19,10 +15,12 @@ module _ (least : Float) (held : Holds) (b : List ℕ) where
   u = update_anew held b
 
   abbrev whole : List ℕ
-  whole = put_flag (put_neo_hookean (update (neo_hookean_of b) held) b) at.row_strained (is_strained (update (neo_hookean_of b) held).pose.strain least)
+  whole =
+      let r = update (neo_hookean_of b) held in
+      put_flag (put_neo_hookean r b) at.row_strained (is_strained r.pose.strain least)
 
   put_is : put_update u least b ≡ whole
-  unfolding put_update put_neo_hookean update update_block renewed neo_hookean_of cell_of material_of stiffness_of put_renewed update_anew energy_anew dt_grad_anew block_anew
+  unfolding put_update put_neo_hookean update update_block renewed neo_hookean_of cell_of material_of stiffness_of put_renewed update_anew block_anew
   put_is = by_cases (is_kept u.pose.strain b) refl
     where
       by_cases : (t : Bool) → is_kept u.pose.strain b ≡ t → put_update u least b ≡ whole

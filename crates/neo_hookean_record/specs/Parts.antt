@@ -17,10 +17,10 @@ use Rattle.stored.specs.Read.{cell_of, pose_of, compliance_of, material_of, stif
 use Rattle.stored.specs.Put.{put_flag, put_pose, put_renewed}
 use Rattle.neo_hookean_record.specs.declared.Update.{Update}
 
-unfoldable pub energy_anew : List Float → List ℕ → Energy
+abbrev pub energy_anew : List Float → List ℕ → Energy
 energy_anew strain b = gradient (f32_at b at.neo_mu) (f32_at b at.neo_lambda) strain
 
-unfoldable pub dt_grad_anew : Energy → List ℕ → List Float
+abbrev pub dt_grad_anew : Energy → List ℕ → List Float
 dt_grad_anew e b = scale6 e.grad (f32_at b at.neo_dt)
 
 -- whether the block is kept: the strain is within 0.02 of the one that it was computed at

@@ -69,22 +69,25 @@ fn renewed(b: Bytes, energy: Energy, strain: &[f32; 6], dt_grad: &[f32; 6]) -> B
     neo_hookean::renewal::renewed(coeffs, im, material_of(b), energy, strain, dt_grad)
 }
 
-#[tactic(auto, unfolding(crate::specs::Parts::update_anew, crate::specs::Parts::energy_anew, crate::specs::Parts::dt_grad_anew, stored::specs::Read::material_of,))]
+// It returns where the block is kept: an `if` that made the Option, and was then moved, copied its 336 bytes in both cases.
+#[tactic(auto, unfolding(crate::specs::Parts::update_anew, stored::specs::Read::material_of))]
 pub fn updated(b: Bytes, held: Holds) -> Update
     ensures { result ≡ spec.update_anew held b.entry.bytes.now }
 {
     let pose = cell_record::pose_anew(b.at_least(), held);
     let energy = lame_of(b).gradient(&pose.strain);
     let dt_grad = strain::scale(&energy.grad, b.get(layout::NEO_DT));
-    let block = if is_kept(b, &pose.strain) {
-        None
-    } else {
-        Some(renewed(b, energy, &pose.strain, &dt_grad))
-    };
+    if is_kept(b, &pose.strain) {
+        return Update {
+            pose,
+            dt_grad,
+            block: None,
+        };
+    }
     Update {
         pose,
         dt_grad,
-        block,
+        block: Some(renewed(b, energy, &pose.strain, &dt_grad)),
     }
 }
 
@@ -115,7 +118,7 @@ pub fn put_updated(b: &mut [u8], u: &Update, least: f32)
 
 // ---- warm start
 
-#[tactic(auto, unfolding(neo_hookean::specs::Row::warmstart, stored::specs::Read::cell_of, stored::specs::Read::pose_of, stored::specs::Read::neo_hookean_of, cell_record::specs::Rows::strain_rows,))]
+#[tactic(auto, using(crate::proofs::Parted::warmstart_is))]
 pub fn warmed(b: Bytes, coeff: f32) -> Solved<Impulses>
     ensures { result ≡ n.warmstart (neo_hookean_of b.entry.bytes.now) coeff }
 {
@@ -147,7 +150,7 @@ fn strain_step(b: Bytes, rows: StrainRows, impulse: &[f32; 6], vel: Holds) -> [f
     cell_record::eased_at(b.at_least(), &residual)
 }
 
-#[tactic(auto, unfolding(neo_hookean::specs::Row::solve, neo_hookean::specs::NeoHookean::solve_neo_hookean, stored::specs::Read::cell_of, stored::specs::Read::pose_of, stored::specs::Read::stiffness_of, stored::specs::Read::neo_hookean_of, cell_record::specs::Rows::strain_rows, crate::specs::Parts::strain_step_at,))]
+#[tactic(auto, using(crate::proofs::Parted::solve_is))]
 pub fn solved(b: Bytes, vel: Holds) -> Solved<Impulses>
     ensures { result ≡ n.solve (neo_hookean_of b.entry.bytes.now) vel }
 {
