@@ -44,8 +44,22 @@ room_of kind l h = go (eqb kind 3) (eqb kind 4) h
     go false true h = h
     go false false h = h
 
-pub room : (b : List ℕ) {kind : RowKind} → Whole b → kind ≡ row_kind (le16 b 4) → (k : RowKind) → kind ≡ k → width k ≤ length b
+room : (b : List ℕ) {kind : RowKind} → Whole b → kind ≡ row_kind (le16 b 4) → (k : RowKind) → kind ≡ k → width k ≤ length b
 room b w e k h = subst (λ (q : RowKind). width q ≤ length b) (sym e ∙ h) (room_of (le16 b 4) (length b) w.wide)
+
+pub room_any : (b : List ℕ) → Whole b → 182 ≤ length b
+room_any b w = long_row (le16 b 4) (length b) w.wide
+
+pub room_scalar : (b : List ℕ) {kind : RowKind} → Whole b → kind ≡ row_kind (le16 b 4) → kind ≡ Scalar → 182 ≤ length b
+room_scalar b w e h = room b w e Scalar h
+
+pub room_corotational : (b : List ℕ) {kind : RowKind} → Whole b → kind ≡ row_kind (le16 b 4) → kind ≡ Corotational → 618 ≤ length b
+room_corotational b w e h = room b w e Corotational h
+
+pub room_neo : (b : List ℕ) {kind : RowKind} → Whole b → kind ≡ row_kind (le16 b 4) → kind ≡ NeoHookean → 678 ≤ length b
+room_neo b w e h = room b w e NeoHookean h
+
+pub ruleset by_room = (room_any, room_scalar, room_corotational, room_neo)
 
 -- ---- names
 
@@ -108,15 +122,18 @@ module _ (b : List ℕ) {kind : RowKind} (e : kind ≡ row_kind (le16 b 4)) wher
     update_corotational h d f p =
         p ∙ (λ j. put_flag (put_volume (f j) (put_pose (d j) b)) at.row_strained (cell.is_strained (d j).strain least)) ∙ ap updated (is Corotational h)
 
-    pub update_neo : kind ≡ NeoHookean → {u : neo.Update} {ys : List ℕ} → u ≡ parts.update_anew held b → ys ≡ parts.put_update u least b → ys ≡ update_row least held b
+    pub update_neo : kind ≡ NeoHookean → {u : neo.Update} {ys : List ℕ} → u ≡ parts.update_anew held b → ys ≡ parts.put_update u least b
+        → ys ≡ update_row least held b
     unfolding update_row update_of strained_of put_constraint
     update_neo h found put = updated_is least held b found put ∙ ap updated (is NeoHookean h)
 
-  -- a warm start and a solve: step is what the phase makes of a row, put_in puts of that what the phase assigns; d and put are the same as the code has them, of a row of one kind
+  -- a warm start and a solve: step is what the phase makes of a row, and put_in puts of that what the phase assigns; d and put are the same of a
+  -- row of one kind, as the code has them
   module _ (step : Constraint → Solved Constraint) (put_in : Constraint → List ℕ → List ℕ) where
-    pub phase_is : (k : RowKind) → kind ≡ k → {T : Type 0} (put : T → List ℕ → List ℕ) {d q : Solved T} {ys : List ℕ} → d ≡ q → ys ≡ put d.state b
-        → put q.state b ≡ put_in (step (by_kind k b)).state b → q.loss ≡ (step (by_kind k b)).loss
+    pub phase_is : (k : RowKind) → kind ≡ k → {T : Type 0} (put : T → List ℕ → List ℕ) {d q : Solved T} {ys : List ℕ} → d ≡ q
+        → ys ≡ put d.state b → put q.state b ≡ put_in (step (by_kind k b)).state b → q.loss ≡ (step (by_kind k b)).loss
         → (ys ≡ put_in (step (constraint_of b)).state b) × (d.loss ≡ (step (constraint_of b)).loss)
-    phase_is k h {T} put made was_put state loss =
-        (was_put ∙ ap (λ (y : Solved T). put y.state b) made ∙ state ∙ ap (λ (y : Constraint). put_in (step y).state b) (is k h),
-        ap (λ (y : Solved T). y.loss) made ∙ loss ∙ ap (λ (y : Constraint). (step y).loss) (is k h))
+    phase_is k h {T} put made was_put state loss = (
+      was_put ∙ ap (λ (y : Solved T). put y.state b) made ∙ state ∙ ap (λ (y : Constraint). put_in (step y).state b) (is k h),
+      ap (λ (y : Solved T). y.loss) made ∙ loss ∙ ap (λ (y : Constraint). (step y).loss) (is k h),
+    )

@@ -55,6 +55,7 @@ pub fn is_strained(b: &[u8]) -> bool
 
 // ---- the phases. The record is read, and then what the phase assigns is put into it
 
+#[tactic(auto, using(crate::proofs::ByKind::by_room))]
 pub fn update_row(b: &mut [u8], held: Holds, least: f32)
     requires { Whole b.old }
     ensures anew { b.new ≡ spec.update_row least held b.old }
@@ -77,6 +78,7 @@ pub fn update_row(b: &mut [u8], held: Holds, least: f32)
 }
 
 // What each place is to lose.
+#[tactic(auto, using(crate::proofs::ByKind::by_room))]
 pub fn warm_row(b: &mut [u8], coeff: f32) -> Four<Vec3>
     requires { Whole b.old }
     ensures anew { b.new ≡ spec.warm_row coeff b.old }
@@ -102,6 +104,7 @@ pub fn warm_row(b: &mut [u8], coeff: f32) -> Four<Vec3>
     }
 }
 
+#[tactic(auto, using(crate::proofs::ByKind::by_room))]
 pub fn solve_row(b: &mut [u8], vel: Holds) -> Four<Vec3>
     requires { Whole b.old }
     ensures anew { b.new ≡ spec.solve_row vel b.old }
