@@ -3,13 +3,11 @@
 #![tactic(auto)]
 
 ghost use Rattle.std.specs.Prelude.{◌≡◌, ◌≤◌, length};
-ghost use Rattle.records.specs.Layout as at;
-ghost use Rattle.cell.specs.Cell as cell;
 ghost use Rattle.corotational.specs.Row as c;
 ghost use Rattle.floats.specs.Written.{Kept};
 ghost use Rattle.stored.specs.Read.{springs_of, volume_of, corotational_of};
-ghost use Rattle.stored.specs.Put.{put_flag, put_pose, put_volume};
-ghost use Rattle.corotational_record.specs.Parts.{volume_anew, strain_step_at};
+ghost use Rattle.stored.specs.Put.{put_volume};
+ghost use Rattle.corotational_record.specs.Parts as spec;
 
 use cell::{Impulses, Pose, StrainRows};
 use cell_record::{compliance_of, impulses_of, strain_rows};
@@ -42,7 +40,7 @@ fn springs_of(b: Bytes) -> Springs
 // With f the deformation gradient of the same update.
 #[tactic(auto, unfolding(crate::specs::Parts::volume_anew, cell_record::specs::Rows::strain_rows,))]
 fn volume_anew(b: Bytes, pose: &Pose, f: Mat3) -> Volume
-    ensures { result ≡ volume_anew pose.now.rot_mat pose.now.inverted f b.entry.bytes.now }
+    ensures { result ≡ spec.volume_anew pose.now.rot_mat pose.now.inverted f b.entry.bytes.now }
 {
     let inv_rest = b.get(layout::ELASTIC_INV_REST_MATRIX);
     let rows = strain_rows(b.at_least(), pose.rot_mat);
@@ -60,8 +58,7 @@ pub struct Update {
 
 #[tactic(auto, using(crate::proofs::Parted::update_is))]
 pub fn updated(b: Bytes, held: Holds) -> Update
-    ensures pose { result.pose ≡ (c.update (corotational_of b.entry.bytes.now) held).pose }
-    ensures volume { result.volume ≡ (c.update (corotational_of b.entry.bytes.now) held).volume }
+    ensures { result ≡ spec.update_anew held b.entry.bytes.now }
 {
     let shared = b.at_least();
     let pos = cell_record::pos_anew(shared, held);
@@ -86,7 +83,7 @@ fn put_volume(b: &mut [u8], v: Volume)
 
 pub fn put_updated(b: &mut [u8], u: Update, least: f32)
     requires { 618 ≤ length b.old }
-    ensures { (b.new ≡ put_flag (put_volume u.volume (put_pose u.pose b.old)) at.row_strained (cell.is_strained u.pose.strain least)) × Kept b.old b.new }
+    ensures { (b.new ≡ spec.put_update u least b.old) × Kept b.old b.new }
 {
     cell_record::put_pose(b, u.pose);
     put_volume(b, u.volume);
@@ -124,7 +121,7 @@ fn volume_of(b: Bytes) -> Volume
 // What the strain rows would take if there were no volumetric row.
 #[tactic(auto, unfolding(corotational::specs::Corotational::strain_step, crate::specs::Parts::strain_step_at))]
 fn strain_step(b: Bytes, rows: StrainRows, impulse: &[f32; 6], vel: Holds) -> [f32; 6]
-    ensures { result ≡ strain_step_at rows.rot rows.coeffs impulse.now vel b.entry.bytes.now }
+    ensures { result ≡ spec.strain_step_at rows.rot rows.coeffs impulse.now vel b.entry.bytes.now }
 {
     let strain = b.get(layout::ELASTIC_STRAIN);
     let erp = b.get(layout::CORO_ERP_STRAIN);

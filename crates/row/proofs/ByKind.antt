@@ -2,22 +2,19 @@
 use Rattle.std.proofs.Common.{◌≡◌, refl, sym, ap, ◌∙◌, subst, ℕ, ◌≤◌, Bool, true, false, cond, eqb, List, length, Float, arith}
 use Rattle.little_endian.specs.Bytes.{le16}
 use Rattle.places.specs.Places.{Holds, Ids}
-use Rattle.places.specs.declared.Solved.{Solved}
-use Rattle.floats.specs.Fields.{ids_at, put_f32, put_floats}
+use Rattle.floats.specs.Fields.{ids_at}
 use Rattle.rows.specs.Row.{Constraint, scalar, corotational, neo_hookean}
-use Rattle.rows.specs.Step.{update_of, strained_of}
+use Rattle.rows.specs.Step.{update_of, strained_of, warmstart_of, solve_of}
 use Rattle.scalar.specs.Row as s
 use Rattle.scalar.specs.declared.SoftScalarConstraint.{SoftScalarConstraint}
-use Rattle.cell.specs.Cell as cell
-use Rattle.cell.specs.declared.Impulses.{Impulses}
-use Rattle.corotational.specs.Row as c
 use Rattle.stored.specs.Read.{constraint_of, scalar_of, corotational_of, neo_hookean_of}
 use Rattle.records.specs.Layout as at
 use Rattle.records.specs.Kinds.{row_kind}
 use Rattle.records.specs.declared.kinds.RowKind.{RowKind}
 use Rattle.records.specs.declared.kinds.RowKind.TheVariants.{Scalar, Corotational, NeoHookean}
-use Rattle.stored.specs.Put.{put_flag, put_scalar, put_pose, put_volume, put_corotational, put_constraint}
-use Rattle.stored.specs.Phases.{counted_ids, names_at, update_row}
+use Rattle.stored.specs.Put.{put_flag, put_scalar, put_corotational, put_constraint, warm_constraint, solve_constraint}
+use Rattle.stored.specs.Phases.{counted_ids, names_at, update_row, warm_row, warm_loss, solve_row, solve_loss}
+use Rattle.corotational_record.specs.Parts as coro_parts
 use Rattle.corotational_record.specs.declared.Update as coro
 use Rattle.neo_hookean_record.specs.Parts as parts
 use Rattle.neo_hookean_record.specs.declared.Update as neo
@@ -96,12 +93,6 @@ constraint_is b = go (eqb (le16 b 4) 3) (eqb (le16 b 4) 4)
     go false true = refl
     go false false = refl
 
-abbrev pub put_impulse : SoftScalarConstraint → List ℕ → List ℕ
-put_impulse r y = put_f32 y at.scalar_impulse r.response.impulse
-
-abbrev pub put_solved : Impulses → List ℕ → List ℕ
-put_solved l y = put_floats 6 y at.elastic_strain_impulse l.strain
-
 module _ (b : List ℕ) {kind : RowKind} (e : kind ≡ row_kind (le16 b 4)) where
   is : (k : RowKind) → kind ≡ k → by_kind k b ≡ constraint_of b
   is k h = ap (λ (q : RowKind). by_kind q b) (sym h ∙ e) ∙ constraint_is b
@@ -115,25 +106,37 @@ module _ (b : List ℕ) {kind : RowKind} (e : kind ≡ row_kind (le16 b 4)) wher
     unfolding update_row update_of strained_of put_constraint
     update_scalar h d p = p ∙ ap (λ (r : SoftScalarConstraint). put_flag (put_scalar r b) at.row_strained (s.is_strained r least)) d ∙ ap updated (is Scalar h)
 
-    pub update_corotational : kind ≡ Corotational → {u : coro.Update} {ys : List ℕ}
-        → u.pose ≡ (c.update (corotational_of b) held).pose → u.volume ≡ (c.update (corotational_of b) held).volume
-        → ys ≡ put_flag (put_volume u.volume (put_pose u.pose b)) at.row_strained (cell.is_strained u.pose.strain least) → ys ≡ update_row least held b
+    pub update_corotational : kind ≡ Corotational → {u : coro.Update} {ys : List ℕ} → u ≡ coro_parts.update_anew held b
+        → ys ≡ coro_parts.put_update u least b → ys ≡ update_row least held b
     unfolding update_row update_of strained_of put_constraint put_corotational
-    update_corotational h d f p =
-        p ∙ (λ j. put_flag (put_volume (f j) (put_pose (d j) b)) at.row_strained (cell.is_strained (d j).strain least)) ∙ ap updated (is Corotational h)
+    update_corotational h found put = put ∙ ap (λ (u : coro.Update). coro_parts.put_update u least b) found ∙ ap updated (is Corotational h)
 
     pub update_neo : kind ≡ NeoHookean → {u : neo.Update} {ys : List ℕ} → u ≡ parts.update_anew held b → ys ≡ parts.put_update u least b
         → ys ≡ update_row least held b
     unfolding update_row update_of strained_of put_constraint
     update_neo h found put = updated_is least held b found put ∙ ap updated (is NeoHookean h)
 
-  -- a warm start and a solve: step is what the phase makes of a row, and put_in puts of that what the phase assigns; d and put are the same of a
-  -- row of one kind, as the code has them
-  module _ (step : Constraint → Solved Constraint) (put_in : Constraint → List ℕ → List ℕ) where
-    pub phase_is : (k : RowKind) → kind ≡ k → {T : Type 0} (put : T → List ℕ → List ℕ) {d q : Solved T} {ys : List ℕ} → d ≡ q
-        → ys ≡ put d.state b → put q.state b ≡ put_in (step (by_kind k b)).state b → q.loss ≡ (step (by_kind k b)).loss
-        → (ys ≡ put_in (step (constraint_of b)).state b) × (d.loss ≡ (step (constraint_of b)).loss)
-    phase_is k h {T} put made was_put state loss = (
-      was_put ∙ ap (λ (y : Solved T). put y.state b) made ∙ state ∙ ap (λ (y : Constraint). put_in (step y).state b) (is k h),
-      ap (λ (y : Solved T). y.loss) made ∙ loss ∙ ap (λ (y : Constraint). (step y).loss) (is k h),
-    )
+-- a warm start and a solve of the row are those of the row of its kind
+pub warm_is : (b : List ℕ) (coeff : Float) {kind : RowKind} → kind ≡ row_kind (le16 b 4) → (k : RowKind) → kind ≡ k
+    → warm_row coeff b ≡ warm_constraint (warmstart_of (by_kind k b) coeff).state b
+unfolding warm_row
+warm_is b coeff e k h = ap (λ (q : Constraint). warm_constraint (warmstart_of q coeff).state b) (sym (is b e k h))
+
+pub warm_loss_is : (b : List ℕ) (coeff : Float) {kind : RowKind} → kind ≡ row_kind (le16 b 4) → (k : RowKind) → kind ≡ k
+    → warm_loss coeff b ≡ (warmstart_of (by_kind k b) coeff).loss
+unfolding warm_loss
+warm_loss_is b coeff e k h = ap (λ (q : Constraint). (warmstart_of q coeff).loss) (sym (is b e k h))
+
+pub solve_is : (b : List ℕ) (vel : Holds) {kind : RowKind} → kind ≡ row_kind (le16 b 4) → (k : RowKind) → kind ≡ k
+    → solve_row vel b ≡ solve_constraint (solve_of (by_kind k b) vel).state b
+unfolding solve_row
+solve_is b vel e k h = ap (λ (q : Constraint). solve_constraint (solve_of q vel).state b) (sym (is b e k h))
+
+pub solve_loss_is : (b : List ℕ) (vel : Holds) {kind : RowKind} → kind ≡ row_kind (le16 b 4) → (k : RowKind) → kind ≡ k
+    → solve_loss vel b ≡ (solve_of (by_kind k b) vel).loss
+unfolding solve_loss
+solve_loss_is b vel e k h = ap (λ (q : Constraint). (solve_of q vel).loss) (sym (is b e k h))
+
+pub ruleset by_update = (by_room, update_scalar, update_corotational, update_neo)
+
+pub ruleset by_phase = (by_room, warm_is, warm_loss_is, solve_is, solve_loss_is)

@@ -55,7 +55,7 @@ pub fn is_strained(b: &[u8]) -> bool
 
 // ---- the phases. The record is read, and then what the phase assigns is put into it
 
-#[tactic(auto, using(crate::proofs::ByKind::by_room))]
+#[tactic(auto, using(crate::proofs::ByKind::by_update))]
 pub fn update_row(b: &mut [u8], held: Holds, least: f32)
     requires { Whole b.old }
     ensures anew { b.new ≡ spec.update_row least held b.old }
@@ -78,7 +78,7 @@ pub fn update_row(b: &mut [u8], held: Holds, least: f32)
 }
 
 // What each place is to lose.
-#[tactic(auto, using(crate::proofs::ByKind::by_room))]
+#[tactic(auto, using(crate::proofs::ByKind::by_phase), unfolding(rows::specs::Step::warmstart_of, stored::specs::Put::warm_constraint))]
 pub fn warm_row(b: &mut [u8], coeff: f32) -> Four<Vec3>
     requires { Whole b.old }
     ensures anew { b.new ≡ spec.warm_row coeff b.old }
@@ -104,7 +104,7 @@ pub fn warm_row(b: &mut [u8], coeff: f32) -> Four<Vec3>
     }
 }
 
-#[tactic(auto, using(crate::proofs::ByKind::by_room))]
+#[tactic(auto, using(crate::proofs::ByKind::by_phase), unfolding(rows::specs::Step::solve_of, stored::specs::Put::solve_constraint))]
 pub fn solve_row(b: &mut [u8], vel: Holds) -> Four<Vec3>
     requires { Whole b.old }
     ensures anew { b.new ≡ spec.solve_row vel b.old }
