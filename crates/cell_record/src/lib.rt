@@ -24,6 +24,8 @@ use vector::{Four, Mat3, Vec3};
 // The bytes of an elastic row, as far as both kinds have the same fields.
 pub type ElasticBytes<'a> = RowBytes<'a, 450>;
 
+// Each put here asks for the length: a type that held it beside the `&mut` was tried, and each put then had to promise that it still holds
+// the same reference; with AllWritten in it too, it would ask that of callers, where Kept passes it on.
 pub fn put_strained(b: &mut [u8], strain: &[f32; 6], least: f32)
     requires { 450 ≤ length b.old }
     ensures { (b.new ≡ put_flag b.old at.row_strained (cell.is_strained strain.now least)) × Kept b.old b.new }

@@ -91,6 +91,7 @@ pub fn updated(b: Bytes, held: Holds) -> Update
     }
 }
 
+// The puts ask for the length as cell_record's do, and for its reason.
 #[tactic(auto, unfolding(stored::specs::Put::put_renewed))]
 fn put_block(b: &mut [u8], k: &Block)
     requires { 678 ≤ length b.old }
