@@ -119,7 +119,7 @@ pub fn put_impulses(b: &mut [u8], l: Impulses)
 
 // ---- 6x6 matrices
 
-// The matrix at k, column by column.
+// The matrix at k, column by column. Six reads, written out: a closure for them would have to ask for the three facts of k again.
 #[inline(always)]
 #[tactic(auto, using(crate::proofs::Joined::joined))]
 pub fn matrix_at<const N: usize>(b: RowBytes<N>, k: usize) -> [f32; 36]
