@@ -20,10 +20,7 @@ impl Compliance {
 fn local_of(inv_rot: Mat3, vel: Option<Vec3>) -> Vec3
     ensures { result ≡ spec.local_of inv_rot vel }
 {
-    match vel {
-        Some(v) => inv_rot * v,
-        None => Vec3::zero(),
-    }
+    vel.map_or(Vec3::zero(), |v| inv_rot * v)
 }
 
 #[tactic(auto, unfolding(crate::specs::Cell::local_velocities))]

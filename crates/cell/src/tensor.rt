@@ -110,7 +110,8 @@ pub fn weighted(c: Four<Vec3>, im: Masses) -> Four<Vec3>
 
 // ---- the effective-mass block
 
-// One entry. A delta of 0 multiplies too: 0 times an infinity is a NaN, and a sum that starts at -0 becomes +0.
+// One entry. A delta of 0 multiplies too: 0 times an infinity is a NaN, and a sum that starts at -0 becomes +0. Eight numbers, since it is
+// the sum of the Rust, written out: a struct of them would be made for each of its six entries and taken apart here.
 #[tactic(auto, unfolding(crate::specs::Columns::quarter))]
 fn quarter(ik: f32, il: f32, jk: f32, jl: f32, gik: f32, gil: f32, gjk: f32, gjl: f32) -> f32
     ensures { result ≡ columns.quarter ik il jk jl gik gil gjk gjl }
@@ -133,7 +134,7 @@ fn block_column(k: Vec3, gk: Vec3, l: Vec3, gl: Vec3) -> [f32; 6]
     ]
 }
 
-// A 6x6 matrix of its columns, stored one by one: an array made by index takes ten times as long.
+// A 6x6 matrix of its columns, stored one by one: gathered by `from_fn` it took 98 ns for 10 to 17.
 #[tactic(auto, unfolding(crate::specs::Columns::from_columns))]
 pub fn from_columns(c: &[[f32; 6]; 6]) -> [f32; 36]
     ensures { result ≡ columns.from_columns c.now }

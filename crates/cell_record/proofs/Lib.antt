@@ -1,2 +1,3 @@
--- A 6x6 matrix read column by column. Assumes nothing.
+-- Laws of the elastic rows on their records. Assumes nothing.
 pub mod Joined
+pub mod Posed

@@ -24,6 +24,8 @@ use vector::{Four, Mat3, Vec3};
 // The bytes of an elastic row, as far as both kinds have the same fields.
 pub type ElasticBytes<'a> = RowBytes<'a, 450>;
 
+// Each put here asks for the length: a type that held it beside the `&mut` was tried, and each put then had to promise that it still holds
+// the same reference; with AllWritten in it too, it would ask that of callers, where Kept passes it on.
 pub fn put_strained(b: &mut [u8], strain: &[f32; 6], least: f32)
     requires { 450 ≤ length b.old }
     ensures { (b.new ≡ put_flag b.old at.row_strained (cell.is_strained strain.now least)) × Kept b.old b.new }
@@ -60,7 +62,7 @@ pub fn posed_anew(b: ElasticBytes, pos: Four<Vec3>, f: Mat3) -> Pose
     cell::update::posed(&caps, warm, pos, f)
 }
 
-#[tactic(auto, unfolding(cell::specs::Cell::update_pose, stored::specs::Read::cell_of, stored::specs::Read::pose_of, crate::specs::Anew::pos_anew, crate::specs::Anew::deformation_anew, crate::specs::Anew::posed_anew,))]
+#[tactic(auto, using(crate::proofs::Posed::pose_is))]
 pub fn pose_anew(b: ElasticBytes, held: Holds) -> Pose
     ensures { result ≡ cell.update_pose (cell_of b.entry.bytes.now) (pose_of b.entry.bytes.now) held }
 {
@@ -117,7 +119,7 @@ pub fn put_impulses(b: &mut [u8], l: Impulses)
 
 // ---- 6x6 matrices
 
-// The matrix at k, column by column.
+// The matrix at k, column by column. Six reads, written out: a closure for them would have to ask for the three facts of k again.
 #[inline(always)]
 #[tactic(auto, using(crate::proofs::Joined::joined))]
 pub fn matrix_at<const N: usize>(b: RowBytes<N>, k: usize) -> [f32; 36]
@@ -146,8 +148,8 @@ pub fn compliance_of(b: ElasticBytes) -> Compliance
     }
 }
 
-// The block's inverse times a residual: read and multiplied in one function, which both kinds call, since the product would lose its vectors if
-// it were compiled into a solve.
+// The block's inverse times a residual: read and multiplied in one function, which both kinds call, since the product would lose its
+// vectors if it were compiled into a solve.
 #[inline(never)]
 pub fn eased_at(b: ElasticBytes, residual: &[f32; 6]) -> [f32; 6]
     ensures { result ≡ mat_vec (compliance_of b.entry.bytes.now).inv_a residual.now }

@@ -8,6 +8,7 @@ use places::{Holds, Solved};
 use strain::{add, component_mul, dot6, scale, sub};
 use vector::{Four, Vec3};
 
+// Five lists, each read alone in a solve: Springs would bring four fields that are not used here.
 #[tactic(auto, unfolding(crate::specs::Corotational::residual))]
 pub fn residual(
     erp: &[f32; 6],

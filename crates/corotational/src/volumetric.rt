@@ -62,7 +62,8 @@ fn inv_schur(volumetric: bool, w: f32, gain: f32, b: &[f32; 6], z: &[f32; 6]) ->
     real::pick(volumetric, real::inv(w + gain - dot6(b, z)), 0.0)
 }
 
-// With f the deformation gradient, and the rows' rotation and `inverted` those of the same update.
+// With f the deformation gradient, and the rows' rotation and `inverted` those of the same update. Six parts, each read where it lies: a
+// Cell and a Pose in their place would bring the caps, the positions, the quaternion and the strain, which are not used here.
 #[tactic(auto, unfolding(crate::specs::Corotational::update_volume))]
 pub fn update_volume(
     rows: StrainRows,

@@ -3,13 +3,11 @@
 #![tactic(auto)]
 
 ghost use Rattle.std.specs.Prelude.{◌≡◌, ◌≤◌, length};
-ghost use Rattle.records.specs.Layout as at;
-ghost use Rattle.cell.specs.Cell as cell;
 ghost use Rattle.corotational.specs.Row as c;
 ghost use Rattle.floats.specs.Written.{Kept};
 ghost use Rattle.stored.specs.Read.{springs_of, volume_of, corotational_of};
-ghost use Rattle.stored.specs.Put.{put_flag, put_pose, put_volume};
-ghost use Rattle.corotational_record.specs.Parts.{volume_anew, strain_step_at};
+ghost use Rattle.stored.specs.Put.{put_volume};
+ghost use Rattle.corotational_record.specs.Parts as spec;
 
 use cell::{Impulses, Pose, StrainRows};
 use cell_record::{compliance_of, impulses_of, strain_rows};
@@ -39,16 +37,16 @@ fn springs_of(b: Bytes) -> Springs
     }
 }
 
-// With f the deformation gradient, and rot and `inverted` those of the same update.
+// With f the deformation gradient of the same update.
 #[tactic(auto, unfolding(crate::specs::Parts::volume_anew, cell_record::specs::Rows::strain_rows,))]
-fn volume_anew(b: Bytes, rot: Mat3, inverted: bool, f: Mat3) -> Volume
-    ensures { result ≡ volume_anew rot inverted f b.entry.bytes.now }
+fn volume_anew(b: Bytes, pose: &Pose, f: Mat3) -> Volume
+    ensures { result ≡ spec.volume_anew pose.now.rot_mat pose.now.inverted f b.entry.bytes.now }
 {
     let inv_rest = b.get(layout::ELASTIC_INV_REST_MATRIX);
-    let rows = strain_rows(b.at_least(), rot);
+    let rows = strain_rows(b.at_least(), pose.rot_mat);
     let springs = springs_of(b);
     let k = compliance_of(b.at_least());
-    corotational::volumetric::update_volume(rows, inv_rest, springs, k, inverted, f)
+    corotational::volumetric::update_volume(rows, inv_rest, springs, k, pose.inverted, f)
 }
 
 // What an update assigns.
@@ -58,19 +56,19 @@ pub struct Update {
     pub volume: Volume,
 }
 
-#[tactic(auto, unfolding(corotational::specs::Row::update, stored::specs::Read::cell_of, stored::specs::Read::pose_of, stored::specs::Read::corotational_of, cell_record::specs::Anew::pos_anew, cell_record::specs::Anew::deformation_anew, cell_record::specs::Anew::posed_anew, crate::specs::Parts::volume_anew,))]
+#[tactic(auto, using(crate::proofs::Parted::update_is))]
 pub fn updated(b: Bytes, held: Holds) -> Update
-    ensures pose { result.pose ≡ (c.update (corotational_of b.entry.bytes.now) held).pose }
-    ensures volume { result.volume ≡ (c.update (corotational_of b.entry.bytes.now) held).volume }
+    ensures { result ≡ spec.update_anew held b.entry.bytes.now }
 {
     let shared = b.at_least();
     let pos = cell_record::pos_anew(shared, held);
     let f = cell_record::deformation_anew(shared, pos);
     let pose = cell_record::posed_anew(shared, pos, f);
-    let volume = volume_anew(b, pose.rot_mat, pose.inverted, f);
+    let volume = volume_anew(b, &pose, f);
     Update { pose, volume }
 }
 
+// The puts ask for the length as cell_record's do, and for its reason.
 #[tactic(auto, unfolding(stored::specs::Put::put_volume, floats::specs::Fields::put_four))]
 fn put_volume(b: &mut [u8], v: Volume)
     requires { 618 ≤ length b.old }
@@ -86,7 +84,7 @@ fn put_volume(b: &mut [u8], v: Volume)
 
 pub fn put_updated(b: &mut [u8], u: Update, least: f32)
     requires { 618 ≤ length b.old }
-    ensures { (b.new ≡ put_flag (put_volume u.volume (put_pose u.pose b.old)) at.row_strained (cell.is_strained u.pose.strain least)) × Kept b.old b.new }
+    ensures { (b.new ≡ spec.put_update u least b.old) × Kept b.old b.new }
 {
     cell_record::put_pose(b, u.pose);
     put_volume(b, u.volume);
@@ -95,7 +93,7 @@ pub fn put_updated(b: &mut [u8], u: Update, least: f32)
 
 // ---- warm start
 
-#[tactic(auto, unfolding(corotational::specs::Row::warmstart, stored::specs::Read::cell_of, stored::specs::Read::pose_of, stored::specs::Read::volume_of, stored::specs::Read::corotational_of, floats::specs::Fields::four_at, cell_record::specs::Rows::strain_rows,))]
+#[tactic(auto, using(crate::proofs::Parted::warmstart_is))]
 pub fn warmed(b: Bytes, coeff: f32) -> Solved<Impulses>
     ensures { result ≡ c.warmstart (corotational_of b.entry.bytes.now) coeff }
 {
@@ -124,7 +122,7 @@ fn volume_of(b: Bytes) -> Volume
 // What the strain rows would take if there were no volumetric row.
 #[tactic(auto, unfolding(corotational::specs::Corotational::strain_step, crate::specs::Parts::strain_step_at))]
 fn strain_step(b: Bytes, rows: StrainRows, impulse: &[f32; 6], vel: Holds) -> [f32; 6]
-    ensures { result ≡ strain_step_at rows.rot rows.coeffs impulse.now vel b.entry.bytes.now }
+    ensures { result ≡ spec.strain_step_at rows.rot rows.coeffs impulse.now vel b.entry.bytes.now }
 {
     let strain = b.get(layout::ELASTIC_STRAIN);
     let erp = b.get(layout::CORO_ERP_STRAIN);
@@ -134,7 +132,7 @@ fn strain_step(b: Bytes, rows: StrainRows, impulse: &[f32; 6], vel: Holds) -> [f
     cell_record::eased_at(b.at_least(), &residual)
 }
 
-#[tactic(auto, unfolding(corotational::specs::Row::solve, corotational::specs::Corotational::solve_corotational, stored::specs::Read::cell_of, stored::specs::Read::pose_of, stored::specs::Read::springs_of, stored::specs::Read::corotational_of, cell_record::specs::Rows::strain_rows, crate::specs::Parts::strain_step_at,))]
+#[tactic(auto, using(crate::proofs::Parted::solve_is))]
 pub fn solved(b: Bytes, vel: Holds) -> Solved<Impulses>
     ensures { result ≡ c.solve (corotational_of b.entry.bytes.now) vel }
 {

@@ -30,7 +30,7 @@ pub fn stiffness_matrix(p: Material, e: Energy) -> [f32; 36]
     scale(&add(&k, &from_diagonal(&p.damping)), p.dt)
 }
 
-// The effective-mass block A.
+// The effective-mass block A. It has no rotation, so that its coefficients and inverse masses are not StrainRows here and below.
 #[tactic(auto, unfolding(crate::specs::NeoHookean::strain_block))]
 pub fn strain_block(coeffs: Four<Vec3>, im: Masses) -> [f32; 36]
     ensures { result ≡ spec.strain_block coeffs im }
@@ -46,6 +46,7 @@ pub fn block(coeffs: Four<Vec3>, im: Masses, m: &[f32; 36]) -> [f32; 36]
     add(&mat_mul(m, &strain_block(coeffs, im)), &identity6())
 }
 
+// Six parts, each read or computed where an update has it: a struct of them would be made for this call alone.
 #[tactic(auto, unfolding(crate::specs::NeoHookean::renewed))]
 pub fn renewed(
     coeffs: Four<Vec3>,

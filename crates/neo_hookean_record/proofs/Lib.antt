@@ -1,2 +1,3 @@
--- Laws of a neo-Hookean row's update on its record. Assumes nothing.
+-- Laws of the neo-Hookean row on its record. Assumes nothing.
 pub mod Moved
+pub mod Parted

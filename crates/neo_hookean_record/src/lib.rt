@@ -4,12 +4,10 @@
 
 ghost use Rattle.std.specs.Prelude.{◌≡◌, ◌≤◌, length};
 ghost use Rattle.records.specs.Layout as at;
-ghost use Rattle.neo_hookean.specs.NeoHookean.{is_fresh};
 ghost use Rattle.neo_hookean.specs.Row as n;
-ghost use Rattle.floats.specs.Fields.{floats_at, put_floats};
+ghost use Rattle.floats.specs.Fields.{put_floats};
 ghost use Rattle.floats.specs.Written.{Kept};
 ghost use Rattle.stored.specs.Read.{material_of, stiffness_of, neo_hookean_of};
-ghost use Rattle.stored.specs.Put.{put_pose};
 ghost use Rattle.neo_hookean_record.specs.Parts as spec;
 
 use cell::{Impulses, Pose, StrainRows};
@@ -47,49 +45,57 @@ fn material_of(b: Bytes) -> Material
     }
 }
 
-// What an update finds. The block is renewed after a move, and otherwise neither read nor written.
+// What an update assigns: the block only after a move, and otherwise it is neither read nor written.
 #[derive(Clone, Copy)]
 pub struct Update {
     pub pose: Pose,
-    pub energy: Energy,
     pub dt_grad: [f32; 6],
+    pub block: Option<Block>,
 }
 
-#[tactic(auto, unfolding(crate::specs::Parts::update_anew, crate::specs::Parts::energy_anew, crate::specs::Parts::dt_grad_anew, stored::specs::Read::material_of,))]
+fn is_kept(b: Bytes, strain: &[f32; 6]) -> bool
+    ensures { result ≡ spec.is_kept strain.now b.entry.bytes.now }
+{
+    let last = b.get(layout::NEO_STIFFNESS_STRAIN);
+    neo_hookean::renewal::is_fresh(strain, &last)
+}
+
+#[tactic(auto, unfolding(crate::specs::Parts::block_anew, floats::specs::Fields::four_at, floats::specs::Fields::masses_at))]
+fn renewed(b: Bytes, energy: Energy, strain: &[f32; 6], dt_grad: &[f32; 6]) -> Block
+    ensures { result ≡ spec.block_anew energy strain.now dt_grad.now b.entry.bytes.now }
+{
+    let coeffs = b.get(layout::ELASTIC_COEFFS);
+    let im = b.get(layout::ROW_IM);
+    neo_hookean::renewal::renewed(coeffs, im, material_of(b), energy, strain, dt_grad)
+}
+
+// It returns where the block is kept: an `if` that made the Option, and was then moved, copied its 336 bytes in both cases.
+#[tactic(auto, unfolding(crate::specs::Parts::update_anew, stored::specs::Read::material_of))]
 pub fn updated(b: Bytes, held: Holds) -> Update
     ensures { result ≡ spec.update_anew held b.entry.bytes.now }
 {
     let pose = cell_record::pose_anew(b.at_least(), held);
     let energy = lame_of(b).gradient(&pose.strain);
     let dt_grad = strain::scale(&energy.grad, b.get(layout::NEO_DT));
+    if is_kept(b, &pose.strain) {
+        return Update {
+            pose,
+            dt_grad,
+            block: None,
+        };
+    }
     Update {
         pose,
-        energy,
         dt_grad,
+        block: Some(renewed(b, energy, &pose.strain, &dt_grad)),
     }
 }
 
-pub fn is_kept(b: Bytes, u: Update) -> bool
-    ensures { result ≡ is_fresh u.pose.strain (floats_at 6 b.entry.bytes.now at.neo_stiffness_strain) }
-{
-    let last = b.get(layout::NEO_STIFFNESS_STRAIN);
-    neo_hookean::renewal::is_fresh(&u.pose.strain, &last)
-}
-
-#[tactic(auto, unfolding(crate::specs::Parts::block_anew, floats::specs::Fields::four_at, floats::specs::Fields::masses_at))]
-pub fn renewed(b: Bytes, u: Update) -> Block
-    ensures { result ≡ spec.block_anew u.energy u.pose.strain u.dt_grad b.entry.bytes.now }
-{
-    let coeffs = b.get(layout::ELASTIC_COEFFS);
-    let im = b.get(layout::ROW_IM);
-    let p = material_of(b);
-    neo_hookean::renewal::renewed(coeffs, im, p, u.energy, &u.pose.strain, &u.dt_grad)
-}
-
+// The puts ask for the length as cell_record's do, and for its reason.
 #[tactic(auto, unfolding(stored::specs::Put::put_renewed))]
-fn put_block(b: &mut [u8], k: Block)
+fn put_block(b: &mut [u8], k: &Block)
     requires { 678 ≤ length b.old }
-    ensures { (b.new ≡ spec.put_anew k b.old) × Kept b.old b.new }
+    ensures { (b.new ≡ spec.put_anew k.now b.old) × Kept b.old b.new }
 {
     k.stiffness
         .stiffness_strain
@@ -98,36 +104,22 @@ fn put_block(b: &mut [u8], k: Block)
     k.compliance.inv_a.put(b, layout::ELASTIC_INV_A);
 }
 
-// What is put last, whether the block is kept or renewed.
-#[tactic(auto, unfolding(crate::specs::Parts::put_strains))]
-fn put_strains(b: &mut [u8], u: Update, least: f32)
+#[tactic(auto, unfolding(crate::specs::Parts::put_update))]
+pub fn put_updated(b: &mut [u8], u: &Update, least: f32)
     requires { 678 ≤ length b.old }
-    ensures { (b.new ≡ spec.put_strains u least b.old) × Kept b.old b.new }
+    ensures { (b.new ≡ spec.put_update u.now least b.old) × Kept b.old b.new }
 {
+    put_pose(b, u.pose);
+    if let Some(k) = &u.block {
+        put_block(b, k);
+    }
     u.dt_grad.put(b, layout::NEO_DT_GRAD);
     cell_record::put_strained(b, &u.pose.strain, least);
 }
 
-pub fn put_kept(b: &mut [u8], u: Update, least: f32)
-    requires { 678 ≤ length b.old }
-    ensures { (b.new ≡ spec.put_strains u least (put_pose u.pose b.old)) × Kept b.old b.new }
-{
-    put_pose(b, u.pose);
-    put_strains(b, u, least);
-}
-
-pub fn put_renewed(b: &mut [u8], u: Update, k: Block, least: f32)
-    requires { 678 ≤ length b.old }
-    ensures { (b.new ≡ spec.put_strains u least (spec.put_anew k (put_pose u.pose b.old))) × Kept b.old b.new }
-{
-    put_pose(b, u.pose);
-    put_block(b, k);
-    put_strains(b, u, least);
-}
-
 // ---- warm start
 
-#[tactic(auto, unfolding(neo_hookean::specs::Row::warmstart, stored::specs::Read::cell_of, stored::specs::Read::pose_of, stored::specs::Read::neo_hookean_of, cell_record::specs::Rows::strain_rows,))]
+#[tactic(auto, using(crate::proofs::Parted::warmstart_is))]
 pub fn warmed(b: Bytes, coeff: f32) -> Solved<Impulses>
     ensures { result ≡ n.warmstart (neo_hookean_of b.entry.bytes.now) coeff }
 {
@@ -159,7 +151,7 @@ fn strain_step(b: Bytes, rows: StrainRows, impulse: &[f32; 6], vel: Holds) -> [f
     cell_record::eased_at(b.at_least(), &residual)
 }
 
-#[tactic(auto, unfolding(neo_hookean::specs::Row::solve, neo_hookean::specs::NeoHookean::solve_neo_hookean, stored::specs::Read::cell_of, stored::specs::Read::pose_of, stored::specs::Read::stiffness_of, stored::specs::Read::neo_hookean_of, cell_record::specs::Rows::strain_rows, crate::specs::Parts::strain_step_at,))]
+#[tactic(auto, using(crate::proofs::Parted::solve_is))]
 pub fn solved(b: Bytes, vel: Holds) -> Solved<Impulses>
     ensures { result ≡ n.solve (neo_hookean_of b.entry.bytes.now) vel }
 {

@@ -40,10 +40,7 @@ fn rate_at(grad: Vec3, vel: Option<Vec3>) -> Option<f32>
 fn plus(sum: f32, rate: Option<f32>) -> f32
     ensures { result ≡ spec.plus sum rate }
 {
-    match rate {
-        Some(r) => sum + r,
-        None => sum,
-    }
+    rate.map_or(sum, |r| sum + r)
 }
 
 // The rate at which the velocities of the named places change what has these gradients. The products come first, which leaves no branch

@@ -1,32 +1,24 @@
 -- A row of each kind: its phases are those of its kind, and there is room for its fields. Assumes nothing.
 use Rattle.std.proofs.Common.{◌≡◌, refl, sym, ap, ◌∙◌, subst, ℕ, ◌≤◌, Bool, true, false, cond, eqb, List, length, Float, arith}
 use Rattle.little_endian.specs.Bytes.{le16}
-use Rattle.vector.specs.declared.Vec3.{Vec3}
-use Rattle.vector.specs.declared.Four.{Four}
 use Rattle.places.specs.Places.{Holds, Ids}
-use Rattle.places.specs.declared.Solved.{Solved}
-use Rattle.floats.specs.Fields.{ids_at, floats_at, put_f32, put_floats}
+use Rattle.floats.specs.Fields.{ids_at}
 use Rattle.rows.specs.Row.{Constraint, scalar, corotational, neo_hookean}
 use Rattle.rows.specs.Step.{update_of, strained_of, warmstart_of, solve_of}
 use Rattle.scalar.specs.Row as s
 use Rattle.scalar.specs.declared.SoftScalarConstraint.{SoftScalarConstraint}
-use Rattle.cell.specs.Cell as cell
-use Rattle.cell.specs.declared.Impulses.{Impulses}
-use Rattle.corotational.specs.Row as c
-use Rattle.neo_hookean.specs.NeoHookean.{is_fresh}
-use Rattle.neo_hookean.specs.Row as n
-use Rattle.neo_hookean.specs.declared.Block.{Block}
 use Rattle.stored.specs.Read.{constraint_of, scalar_of, corotational_of, neo_hookean_of}
 use Rattle.records.specs.Layout as at
 use Rattle.records.specs.Kinds.{row_kind}
 use Rattle.records.specs.declared.kinds.RowKind.{RowKind}
 use Rattle.records.specs.declared.kinds.RowKind.TheVariants.{Scalar, Corotational, NeoHookean}
-use Rattle.stored.specs.Put.{put_flag, put_scalar, put_pose, put_volume, put_corotational, put_constraint, put_impulses, warm_constraint, solve_constraint}
+use Rattle.stored.specs.Put.{put_flag, put_scalar, put_corotational, put_constraint, warm_constraint, solve_constraint}
 use Rattle.stored.specs.Phases.{counted_ids, names_at, update_row, warm_row, warm_loss, solve_row, solve_loss}
+use Rattle.corotational_record.specs.Parts as coro_parts
 use Rattle.corotational_record.specs.declared.Update as coro
 use Rattle.neo_hookean_record.specs.Parts as parts
 use Rattle.neo_hookean_record.specs.declared.Update as neo
-use Rattle.neo_hookean_record.proofs.Moved.{kept_is, renewed_is}
+use Rattle.neo_hookean_record.proofs.Moved.{updated_is}
 use Rattle.row.specs.Widths.{row_length, width, Whole}
 
 -- ---- room
@@ -49,8 +41,22 @@ room_of kind l h = go (eqb kind 3) (eqb kind 4) h
     go false true h = h
     go false false h = h
 
-pub room : (b : List ℕ) {kind : RowKind} → Whole b → kind ≡ row_kind (le16 b 4) → (k : RowKind) → kind ≡ k → width k ≤ length b
+room : (b : List ℕ) {kind : RowKind} → Whole b → kind ≡ row_kind (le16 b 4) → (k : RowKind) → kind ≡ k → width k ≤ length b
 room b w e k h = subst (λ (q : RowKind). width q ≤ length b) (sym e ∙ h) (room_of (le16 b 4) (length b) w.wide)
+
+pub room_any : (b : List ℕ) → Whole b → 182 ≤ length b
+room_any b w = long_row (le16 b 4) (length b) w.wide
+
+pub room_scalar : (b : List ℕ) {kind : RowKind} → Whole b → kind ≡ row_kind (le16 b 4) → kind ≡ Scalar → 182 ≤ length b
+room_scalar b w e h = room b w e Scalar h
+
+pub room_corotational : (b : List ℕ) {kind : RowKind} → Whole b → kind ≡ row_kind (le16 b 4) → kind ≡ Corotational → 618 ≤ length b
+room_corotational b w e h = room b w e Corotational h
+
+pub room_neo : (b : List ℕ) {kind : RowKind} → Whole b → kind ≡ row_kind (le16 b 4) → kind ≡ NeoHookean → 678 ≤ length b
+room_neo b w e h = room b w e NeoHookean h
+
+pub ruleset by_room = (room_any, room_scalar, room_corotational, room_neo)
 
 -- ---- names
 
@@ -87,17 +93,6 @@ constraint_is b = go (eqb (le16 b 4) 3) (eqb (le16 b 4) 4)
     go false true = refl
     go false false = refl
 
--- what is put and what is lost, of a row that the code computed and of the rule's
-of_state : {T : Type 0} (b : List ℕ) (put : T → List ℕ → List ℕ) {d q : Solved T} {ys after : List ℕ} {loss : Four Vec3} → d ≡ q → ys ≡ put d.state b
-    → (put q.state b ≡ after) × (q.loss ≡ loss) → (ys ≡ after) × (d.loss ≡ loss)
-of_state {T} b put d p w = (p ∙ ap (λ (y : Solved T). put y.state b) d ∙ w.0, ap (λ (y : Solved T). y.loss) d ∙ w.1)
-
-abbrev put_impulse : SoftScalarConstraint → List ℕ → List ℕ
-put_impulse r y = put_f32 y at.scalar_impulse r.response.impulse
-
-abbrev put_solved : Impulses → List ℕ → List ℕ
-put_solved l y = put_floats 6 y at.elastic_strain_impulse l.strain
-
 module _ (b : List ℕ) {kind : RowKind} (e : kind ≡ row_kind (le16 b 4)) where
   is : (k : RowKind) → kind ≡ k → by_kind k b ≡ constraint_of b
   is k h = ap (λ (q : RowKind). by_kind q b) (sym h ∙ e) ∙ constraint_is b
@@ -111,60 +106,37 @@ module _ (b : List ℕ) {kind : RowKind} (e : kind ≡ row_kind (le16 b 4)) wher
     unfolding update_row update_of strained_of put_constraint
     update_scalar h d p = p ∙ ap (λ (r : SoftScalarConstraint). put_flag (put_scalar r b) at.row_strained (s.is_strained r least)) d ∙ ap updated (is Scalar h)
 
-    pub update_corotational : kind ≡ Corotational → {u : coro.Update} {ys : List ℕ}
-        → u.pose ≡ (c.update (corotational_of b) held).pose → u.volume ≡ (c.update (corotational_of b) held).volume
-        → ys ≡ put_flag (put_volume u.volume (put_pose u.pose b)) at.row_strained (cell.is_strained u.pose.strain least) → ys ≡ update_row least held b
+    pub update_corotational : kind ≡ Corotational → {u : coro.Update} {ys : List ℕ} → u ≡ coro_parts.update_anew held b
+        → ys ≡ coro_parts.put_update u least b → ys ≡ update_row least held b
     unfolding update_row update_of strained_of put_constraint put_corotational
-    update_corotational h d f p =
-        p ∙ (λ j. put_flag (put_volume (f j) (put_pose (d j) b)) at.row_strained (cell.is_strained (d j).strain least)) ∙ ap updated (is Corotational h)
+    update_corotational h found put = put ∙ ap (λ (u : coro.Update). coro_parts.put_update u least b) found ∙ ap updated (is Corotational h)
 
-    module _ (h : kind ≡ NeoHookean) {u : neo.Update} {fresh : Bool} {ys : List ℕ}
-        (found : u ≡ parts.update_anew held b) (tested : fresh ≡ is_fresh u.pose.strain (floats_at 6 b at.neo_stiffness_strain)) where
-      pub update_kept : fresh ≡ true → ys ≡ parts.put_strains u least (put_pose u.pose b) → ys ≡ update_row least held b
-      unfolding update_row update_of strained_of put_constraint
-      update_kept t p = kept_is least held b found tested t p ∙ ap updated (is NeoHookean h)
+    pub update_neo : kind ≡ NeoHookean → {u : neo.Update} {ys : List ℕ} → u ≡ parts.update_anew held b → ys ≡ parts.put_update u least b
+        → ys ≡ update_row least held b
+    unfolding update_row update_of strained_of put_constraint
+    update_neo h found put = updated_is least held b found put ∙ ap updated (is NeoHookean h)
 
-      pub update_renewed : {m : Block} → fresh ≡ false → m ≡ parts.block_anew u.energy u.pose.strain u.dt_grad b
-          → ys ≡ parts.put_strains u least (parts.put_anew m (put_pose u.pose b)) → ys ≡ update_row least held b
-      unfolding update_row update_of strained_of put_constraint
-      update_renewed t d p = renewed_is least held b found tested t d p ∙ ap updated (is NeoHookean h)
+-- a warm start and a solve of the row are those of the row of its kind
+pub warm_is : (b : List ℕ) (coeff : Float) {kind : RowKind} → kind ≡ row_kind (le16 b 4) → (k : RowKind) → kind ≡ k
+    → warm_row coeff b ≡ warm_constraint (warmstart_of (by_kind k b) coeff).state b
+unfolding warm_row
+warm_is b coeff e k h = ap (λ (q : Constraint). warm_constraint (warmstart_of q coeff).state b) (sym (is b e k h))
 
-  module _ (coeff : Float) where
-    warmed : (q : Constraint) → q ≡ constraint_of b → (warm_constraint (warmstart_of q coeff).state b ≡ warm_row coeff b) × ((warmstart_of q coeff).loss ≡ warm_loss coeff b)
-    unfolding warm_row warm_loss
-    warmed q h = (ap (λ (y : Constraint). warm_constraint (warmstart_of y coeff).state b) h, ap (λ (y : Constraint). (warmstart_of y coeff).loss) h)
+pub warm_loss_is : (b : List ℕ) (coeff : Float) {kind : RowKind} → kind ≡ row_kind (le16 b 4) → (k : RowKind) → kind ≡ k
+    → warm_loss coeff b ≡ (warmstart_of (by_kind k b) coeff).loss
+unfolding warm_loss
+warm_loss_is b coeff e k h = ap (λ (q : Constraint). (warmstart_of q coeff).loss) (sym (is b e k h))
 
-    pub warm_scalar : kind ≡ Scalar → {d : Solved SoftScalarConstraint} {ys : List ℕ} → d ≡ s.warmstart (scalar_of b) coeff → ys ≡ put_impulse d.state b
-        → (ys ≡ warm_row coeff b) × (d.loss ≡ warm_loss coeff b)
-    unfolding warmstart_of warm_constraint
-    warm_scalar h d p = of_state b put_impulse d p (warmed (scalar (scalar_of b)) (is Scalar h))
+pub solve_is : (b : List ℕ) (vel : Holds) {kind : RowKind} → kind ≡ row_kind (le16 b 4) → (k : RowKind) → kind ≡ k
+    → solve_row vel b ≡ solve_constraint (solve_of (by_kind k b) vel).state b
+unfolding solve_row
+solve_is b vel e k h = ap (λ (q : Constraint). solve_constraint (solve_of q vel).state b) (sym (is b e k h))
 
-    pub warm_corotational : kind ≡ Corotational → {d : Solved Impulses} {ys : List ℕ} → d ≡ c.warmstart (corotational_of b) coeff → ys ≡ put_impulses d.state b
-        → (ys ≡ warm_row coeff b) × (d.loss ≡ warm_loss coeff b)
-    unfolding warmstart_of warm_constraint
-    warm_corotational h d p = of_state b put_impulses d p (warmed (corotational (corotational_of b)) (is Corotational h))
+pub solve_loss_is : (b : List ℕ) (vel : Holds) {kind : RowKind} → kind ≡ row_kind (le16 b 4) → (k : RowKind) → kind ≡ k
+    → solve_loss vel b ≡ (solve_of (by_kind k b) vel).loss
+unfolding solve_loss
+solve_loss_is b vel e k h = ap (λ (q : Constraint). (solve_of q vel).loss) (sym (is b e k h))
 
-    pub warm_neo : kind ≡ NeoHookean → {d : Solved Impulses} {ys : List ℕ} → d ≡ n.warmstart (neo_hookean_of b) coeff → ys ≡ put_impulses d.state b
-        → (ys ≡ warm_row coeff b) × (d.loss ≡ warm_loss coeff b)
-    unfolding warmstart_of warm_constraint
-    warm_neo h d p = of_state b put_impulses d p (warmed (neo_hookean (neo_hookean_of b)) (is NeoHookean h))
+pub ruleset by_update = (by_room, update_scalar, update_corotational, update_neo)
 
-  module _ (vel : Holds) where
-    solved : (q : Constraint) → q ≡ constraint_of b → (solve_constraint (solve_of q vel).state b ≡ solve_row vel b) × ((solve_of q vel).loss ≡ solve_loss vel b)
-    unfolding solve_row solve_loss
-    solved q h = (ap (λ (y : Constraint). solve_constraint (solve_of y vel).state b) h, ap (λ (y : Constraint). (solve_of y vel).loss) h)
-
-    pub solve_scalar : kind ≡ Scalar → {d : Solved SoftScalarConstraint} {ys : List ℕ} → d ≡ s.solve (scalar_of b) vel → ys ≡ put_impulse d.state b
-        → (ys ≡ solve_row vel b) × (d.loss ≡ solve_loss vel b)
-    unfolding solve_of solve_constraint
-    solve_scalar h d p = of_state b put_impulse d p (solved (scalar (scalar_of b)) (is Scalar h))
-
-    pub solve_corotational : kind ≡ Corotational → {d : Solved Impulses} {ys : List ℕ} → d ≡ c.solve (corotational_of b) vel → ys ≡ put_impulses d.state b
-        → (ys ≡ solve_row vel b) × (d.loss ≡ solve_loss vel b)
-    unfolding solve_of solve_constraint
-    solve_corotational h d p = of_state b put_impulses d p (solved (corotational (corotational_of b)) (is Corotational h))
-
-    pub solve_neo : kind ≡ NeoHookean → {d : Solved Impulses} {ys : List ℕ} → d ≡ n.solve (neo_hookean_of b) vel → ys ≡ put_solved d.state b
-        → (ys ≡ solve_row vel b) × (d.loss ≡ solve_loss vel b)
-    unfolding solve_of solve_constraint
-    solve_neo h d p = of_state b put_solved d p (solved (neo_hookean (neo_hookean_of b)) (is NeoHookean h))
+pub ruleset by_phase = (by_room, warm_is, warm_loss_is, solve_is, solve_loss_is)

@@ -55,6 +55,7 @@ pub fn is_strained(b: &[u8]) -> bool
 
 // ---- the phases. The record is read, and then what the phase assigns is put into it
 
+#[tactic(auto, using(crate::proofs::ByKind::by_update))]
 pub fn update_row(b: &mut [u8], held: Holds, least: f32)
     requires { Whole b.old }
     ensures anew { b.new ≡ spec.update_row least held b.old }
@@ -70,19 +71,14 @@ pub fn update_row(b: &mut [u8], held: Holds, least: f32)
             corotational_record::put_updated(b, u, least);
         }
         RowKind::NeoHookean => {
-            let row = RowBytes { bytes: b };
-            let u = neo_hookean_record::updated(row, held);
-            if neo_hookean_record::is_kept(row, u) {
-                neo_hookean_record::put_kept(b, u, least);
-            } else {
-                let k = neo_hookean_record::renewed(row, u);
-                neo_hookean_record::put_renewed(b, u, k, least);
-            }
+            let u = neo_hookean_record::updated(RowBytes { bytes: b }, held);
+            neo_hookean_record::put_updated(b, &u, least);
         }
     }
 }
 
 // What each place is to lose.
+#[tactic(auto, using(crate::proofs::ByKind::by_phase), unfolding(rows::specs::Step::warmstart_of, stored::specs::Put::warm_constraint))]
 pub fn warm_row(b: &mut [u8], coeff: f32) -> Four<Vec3>
     requires { Whole b.old }
     ensures anew { b.new ≡ spec.warm_row coeff b.old }
@@ -108,6 +104,7 @@ pub fn warm_row(b: &mut [u8], coeff: f32) -> Four<Vec3>
     }
 }
 
+#[tactic(auto, using(crate::proofs::ByKind::by_phase), unfolding(rows::specs::Step::solve_of, stored::specs::Put::solve_constraint))]
 pub fn solve_row(b: &mut [u8], vel: Holds) -> Four<Vec3>
     requires { Whole b.old }
     ensures anew { b.new ≡ spec.solve_row vel b.old }

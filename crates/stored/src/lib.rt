@@ -1,4 +1,5 @@
-// The rules of rows and points as the bytes of their records, and of the run of a whole frame, stand in specs/. The code here is what records of every kind share.
+// The rules of rows and points as the bytes of their records, and of the run of a whole frame, stand in specs/. The code here is what
+// records of every kind share.
 #![tactic(auto)]
 
 ghost use Rattle.std.specs.Prelude.{◌≡◌, ◌+◌, ◌≤◌, length};

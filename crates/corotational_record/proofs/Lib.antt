@@ -1,0 +1,2 @@
+-- Laws of the corotational row on its record. Assumes nothing.
+pub mod Parted
