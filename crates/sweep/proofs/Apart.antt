@@ -17,7 +17,7 @@ use Rattle.stored.specs.Phases.{names_at, update_row, warm_row, warm_loss, solve
 use Rattle.stored.specs.Points.{Points, position, update, warm, solve}
 use Rattle.floats.specs.Written.{AllWritten}
 use Rattle.points.specs.InFrame.{on_part, holds_in, taken}
-use Rattle.points.specs.Apart.{moved, Fit, holds_of, lost}
+use Rattle.points.specs.Apart.{moved, FitOf, holds_of, lost}
 use Rattle.points.proofs.Moved.{length_moved, moved_part, moved_on_part, positions_moved, holds_apart, lost_apart}
 use Rattle.sweep.specs.Laid.{Standing, Stepped, step_of, Ready, Swept}
 use Rattle.sweep.specs.declared.Turn.{Turn}
@@ -100,9 +100,9 @@ module _ {n off len : ℕ} (v : List Vec3) (s : List ℕ) (y : Standing n off le
         updated n off len (moved n v s) least (record_at s off) i held (moved n v s') record_apart names (g ∙ sym (positions_moved n v s room_apart.points i))
         (ap (moved n v) (h ∙ part_of (update_row least held)) ∙ moved_on_part n v s off behind inside len (update_row least held)) u
 
-    module _ (q : Fit v) (s₁ : List ℕ) (p : 26 + 30 * n ≤ length s₁) (x : Four Vec3) (v' : List Vec3) (t : v' ≡ lost n v i x) where
+    module _ (k : n ≤ length v) (q : FitOf n v i) (s₁ : List ℕ) (p : 26 + 30 * n ≤ length s₁) (x : Four Vec3) (v' : List Vec3) (t : v' ≡ lost n v i x) where
       lost_here : moved n v' s₁ ≡ taken n (moved n v s₁) i x
-      lost_here = ap (λ (u : List Vec3). moved n u s₁) t ∙ lost_apart n v i x q s₁ p room_apart.few
+      lost_here = ap (λ (u : List Vec3). moved n u s₁) t ∙ lost_apart n v i x k q s₁ p
 
       pub warmed_apart : (coeff : Float) → s₁ ≡ on_record off (warm_row coeff) s → x ≡ warm_loss coeff (record_at s off)
           → AllWritten (warm_row coeff (record_at s off)) → Stepped (warm n coeff) n off len (moved n v s) (moved n v' s₁)
@@ -115,7 +115,7 @@ module _ {n off len : ℕ} (v : List Vec3) (s : List ℕ) (y : Standing n off le
           → AllWritten (solve_row vel (record_at s off)) → Stepped (solve n) n off len (moved n v s) (moved n v' s₁)
       solved_apart vel d g h u =
           solved n off len (moved n v s) (record_at s off) i vel x (moved n v s₁) (moved n v' s₁) record_apart names
-          (d ∙ holds_apart n v s room_apart.points q i)
+          (d ∙ holds_apart n v s room_apart.points i q)
           (ap (moved n v) (g ∙ part_of (solve_row vel)) ∙ moved_on_part n v s off behind inside len (solve_row vel))
           (h ∙ ap (solve_loss vel) (record_of ∙ sym (moved_part n v s off behind inside len))) lost_here u
 

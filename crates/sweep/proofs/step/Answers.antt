@@ -22,16 +22,16 @@ is_passed-requires c = wide c.record_at-b.ensures.0 (room_apart _ _ c.requires).
 pub names_at-names-requires : goal.names_at-names-requires
 names_at-names-requires c = wide c.record_at-b.ensures.0 (room_apart _ _ c.requires).wide
 
-pub returns-then-is_passed-clause-stepped : goal.returns-then-is_passed-clause-stepped
-returns-then-is_passed-clause-stepped c =
+pub returns-then-is_passed : goal.returns-then-is_passed
+returns-then-is_passed c =
     passed _ _ _ _ c.args.t (sym (c.is_passed.ensures ∙ ap (is_passed c.args.t) (c.record_at-b.ensures.0 ∙ record_apart _ _ c.requires)) ∙ c.if-is_passed.true)
 
 pub solve-requires : goal.solve-requires
 solve-requires c =
-    stood_anew _ _ c.requires _ (c.names_at-names.ensures ∙ ap names_at c.record_at-b.ensures.0) _ (begin_stay _ c.args.t) _ _ c.begin.ensures.counted c.begin.ensures.stepped
+    stood_anew _ _ c.requires _ (c.names_at-names.ensures ∙ ap names_at c.record_at-b.ensures.0) _ (begin_stay _ c.args.t) _ _ c.begin.auto.v c.begin.ensures
 
-pub returns-clause-stepped : goal.returns-clause-stepped
-returns-clause-stepped c =
-    let z = subst (λ (k : ℕ). Stepped (solve k) k c.args.off c.args.len (joined c.begin.new.v c.begin.new.s) (joined c.solve.new.v c.solve.new.s)) c.begin.ensures.counted c.solve.ensures.stepped in
+pub returns : goal.returns
+returns c =
+    let z = subst (λ (k : ℕ). Stepped (solve k) k c.args.off c.args.len (joined c.begin.new.v c.begin.new.s) (joined c.solve.new.v c.solve.new.s)) c.begin.auto.v c.solve.ensures in
     gone _ _ _ _ _ c.args.t (sym (c.is_passed.ensures ∙ ap (is_passed c.args.t) (c.record_at-b.ensures.0 ∙ record_apart _ _ c.requires)) ∙ c.if-is_passed.false)
-    (after _ _ _ _ _ _ _ _ c.begin.ensures.stepped z)
+    (after _ _ _ _ _ _ _ _ c.begin.ensures z)
