@@ -22,8 +22,8 @@ pub fn gather(s: &[u8], v: &mut [Vec3])
     ensures apart { Apart (length v.old) s.now v.new }
     ensures same { Calm (length v.old) s.now → moved (length v.old) v.new s.now ≡ s.now }
 {
-    for i in 0..v.len() {
-        v[i] = floats::vec3_at(s, velocity_at(i));
+    for (i, x) in v.iter_mut().enumerate() {
+        *x = floats::vec3_at(s, velocity_at(i));
     }
 }
 
@@ -32,8 +32,8 @@ pub fn scatter(v: &[Vec3], s: &mut [u8])
     requires { (length v.now ≤ 4096) × (26 + 30 * length v.now ≤ length s.old) }
     ensures { s.new ≡ moved (length v.now) v.now s.old }
 {
-    for i in 0..v.len() {
-        v[i].put(s, velocity_at(i));
+    for (i, x) in v.iter().enumerate() {
+        x.put(s, velocity_at(i));
     }
 }
 

@@ -1,7 +1,14 @@
 -- A row's step where the velocities are set apart is its step in the frame that both stand for. Assumes nothing.
 use Prim.Native.Nat.{ℕ, ◌+◌, ◌*◌, ◌-◌, ◌≤◌, ◌<◌}
-use mathlib.Core.Path.{◌≡◌, sym, ap, ◌∙◌, subst}
+use mathlib.Core.Path.{◌≡◌, refl, sym, ap, ◌∙◌, subst}
 use mathlib.Core.List.{List}
+use mathlib.Core.Bool.{Bool, true, false, cond}
+use lib.Dec.{eqb}
+use borrow.Author.Tests.{eqb-true}
+use Rattle.std.proofs.lemmas.Bool.{false≢true}
+use Rattle.records.specs.Kinds.{row_kind}
+use Rattle.records.specs.declared.kinds.RowKind.{RowKind}
+use Rattle.records.specs.declared.kinds.RowKind.TheVariants.{Scalar, Corotational, NeoHookean}
 use native.Mathlib.Omega.{arith}
 use native.Mathlib.Nat.{add-zero, add-sub_cancel_left}
 use lib.Ieee.{Float}
@@ -33,6 +40,23 @@ pub row_found : (off : ℕ) (s : List ℕ) → off + record_length s off ≤ len
 row_found off s h e =
     let p : take (off + 182 - off) (drop off s) ≡ record_at s off = ap (λ (m : ℕ). take m (drop off s)) (add-sub_cancel_left off 182 ∙ sym e) in
     (p, ap length p ∙ length_part s off (record_length s off) h)
+
+abbrev is_scalar : RowKind → Bool
+is_scalar Scalar = true
+is_scalar Corotational = false
+is_scalar NeoHookean = false
+
+-- the number of a scalar row, as it is read from the bytes from off on
+pub scalar_said : (off : ℕ) (s : List ℕ) {k : RowKind} → off + 6 ≤ length s → k ≡ row_kind (le16 (take (length s - off) (drop off s)) 4) → k ≡ Scalar → le16 s (off + 4) ≡ 3
+scalar_said off s h e z = sym (le16_part s off (length s - off) 4 (omega arith)) ∙ go (eqb n 3) refl (eqb n 4) (sym (ap is_scalar (sym e ∙ z)))
+  where
+    n : ℕ
+    n = le16 (take (length s - off) (drop off s)) 4
+
+    go : (t : Bool) → eqb n 3 ≡ t → (u : Bool) → true ≡ is_scalar (cond t Scalar (cond u Corotational NeoHookean)) → n ≡ 3
+    go true q u p = eqb-true n 3 q
+    go false q true p = absurd (false≢true (sym p))
+    go false q false p = absurd (false≢true (sym p))
 
 -- ---- what stands behind the points
 

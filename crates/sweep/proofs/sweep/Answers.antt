@@ -15,7 +15,7 @@ row_at-len-requires c =
     let i = c.loop-row.invariant in
     let room = turn_room _ _ _ _ _ _ _ _ i c.requires (omega arith) in
     let long = turn_long _ _ _ _ _ _ _ _ i c.requires (omega arith) in
-    ((omega (arith, room, long), room), turn_scalar _ _ _ _ _ _ _ _ i c.requires (omega arith))
+    record { kind = omega (arith, room, long); whole = room; scalar = turn_scalar _ _ _ _ _ _ _ _ i c.requires (omega arith) }
 
 pub step-requires : goal.step-requires
 step-requires c =
