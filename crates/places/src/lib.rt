@@ -6,12 +6,15 @@ ghost use Rattle.places.specs.Places as spec;
 
 use vector::{Four, Vec3};
 
-// What the places hold: positions or velocities. A place that is not named (its id is 0xFFFFFFFF, or it lies past a scalar row's count)
+// What the places hold: positions or velocities. A place that is not named (its id is NOBODY, or it lies past a scalar row's count)
 // holds none, and is skipped.
 pub type Holds = Four<Option<Vec3>>;
 
 // The ids of the four places.
 pub type Ids = Four<u32>;
+
+// The id of a place that names no point. It is the frame's own number, which the rules compare as one: so it is no Option.
+pub const NOBODY: u32 = 0xffff_ffff;
 
 // The inverse masses of the four places.
 pub type Masses = Four<f32>;

@@ -1,12 +1,12 @@
 -- Fetching from points in a frame, and taking from them, is fetching and taking in a list of points. Assumes nothing.
 use Prim.Native.Nat.{ℕ, zero, suc, ◌+◌, ◌*◌, ◌≤◌, ◌<◌}
 use mathlib.Core.Path.{◌≡◌, refl, sym, ap, ◌∙◌}
-use mathlib.Core.Bool.{Bool, true, false, cond, not}
+use mathlib.Core.Bool.{Bool, true, false, cond}
 use mathlib.Core.Option.{none}
 use mathlib.Core.List.{List, [], ◌∷◌, ◌++◌, append_assoc}
 use native.Mathlib.Omega.{arith}
 use native.Mathlib.Nat.{add-zero, not-suc-le-zero, le_of_suc-le-suc}
-use lib.Dec.{ltb, eqb}
+use lib.Dec.{ltb}
 use lib.ListN.{length, drop, length-append, get_elem?}
 use lib.Seq.{take_at, drop_at}
 use borrow.Author.Tests.{ltb-true, ltb-false}
@@ -18,7 +18,7 @@ use Rattle.vector.specs.Vector.{zero_vector}
 use Rattle.vector.specs.declared.Vec3.{Vec3}
 use Rattle.vector.specs.declared.Four.{Four}
 use Rattle.places.specs.Places.{Ids}
-use Rattle.rows.specs.Row.{nobody, places, value_of, held_at, holds_of, keep_if, loss_of, losses_of, four}
+use Rattle.rows.specs.Row.{places, value_of, held_at, holds_of, keep_if, loss_of, losses_of, four}
 use Rattle.stored.specs.Points.{lose}
 use Rattle.points.specs.InFrame.{Sized, on_part, point_in, named, held_in, holds_in, taken_at, taken}
 

@@ -9,13 +9,12 @@ use native.Mathlib.Nat.{add-zero}
 use native.Mathlib.Numerals.{add-one}
 use lib.Dec.{ltb}
 use lib.Ieee.{binary32, of_bits}
-use lib.Ieee.Fits.{sub-fits, nan-fits}
-use lib.Ieee.Bits.{of_bits-fits}
-use lib.ListN.{length, replicate, set, take, drop, take-append-drop, length-set}
+use lib.Ieee.Fits.{sub-fits}
+use lib.ListN.{length, set, take, drop, take-append-drop, length-set}
 use lib.Seq.{sets, set-set, set_comm, length-take-le, take_at, drop_at, drop-drop, get_or-set_same, get_or-set_other}
 use borrow.Author.Count.{below_more}
 use borrow.Author.Tests.{ltb-true, ltb-false}
-use Rattle.little_endian.specs.Bytes.{le32, f32_at, f32_bytes, part}
+use Rattle.little_endian.specs.Bytes.{f32_at, f32_bytes, part}
 use Rattle.little_endian.proofs.Parts.{Bytes, le32_part, length_part}
 use Rattle.little_endian.proofs.Patch.{sets-left, sets-middle, sets-comm, f32_back, Beside, le32_beside}
 use Rattle.vector.specs.declared.Vec3.{Vec3}
@@ -27,7 +26,7 @@ use Rattle.floats.proofs.Lengths.{length-put_f32, length-put_vec3}
 use Rattle.floats.proofs.Same.{Finite3, put_vec3_same, vec3_beside}
 use Rattle.stored.specs.Points.{lose, position, velocity}
 use Rattle.points.specs.InFrame.{on_part, place_of, point_in, named, held_in, holds_in, taken_at, taken}
-use Rattle.points.specs.Apart.{velocity_at, no_vector, vec_of, set_vec, moved, Fit3, AllFit, Fit, Apart, held_of, holds_of, lost_at, lost}
+use Rattle.points.specs.Apart.{velocity_at, no_vector, vec_of, set_vec, moved, Fit3, FitAt, FitOf, Apart, held_of, holds_of, lost_at, lost}
 
 -- ---- a vector put is twelve bytes set
 
@@ -133,14 +132,14 @@ module _ (n : ℕ) (v : List Vec3) (s : List ℕ) (off : ℕ) (h : 26 + 30 * n �
 further_on : (i n : ℕ) → i < n → velocity_at i + 12 ≤ velocity_at n
 further_on i n h = omega arith
 
-pub moved_velocity : (v : List Vec3) → AllFit v → (s : List ℕ) (n : ℕ) → 26 + 30 * n ≤ length s → (i : ℕ) → i < n → vec3_at (moved n v s) (velocity_at i) ≡ vec_of v i
+pub moved_velocity : (v : List Vec3) (s : List ℕ) (n : ℕ) → 26 + 30 * n ≤ length s → (i : ℕ) → i < n → Fit3 (vec_of v i) → vec3_at (moved n v s) (velocity_at i) ≡ vec_of v i
 unfolding moved
-moved_velocity v f s zero h i l = absurd (omega arith)
-moved_velocity v f s (suc n) h i l =
-    below_more (λ k. vec3_at (moved (suc n) v s) (velocity_at k) ≡ vec_of v k) n
-    (λ k b. vec3_beside (moved n v s) (velocity_at n) (vec_of v n) (velocity_at k) (inl (further_on k n b)) ∙ moved_velocity v f s n (omega arith) k b)
-    (vec3_back (moved n v s) (velocity_at n) (vec_of v n) (omega (arith, length_moved n v s)) (f n))
-    i (omega arith)
+moved_velocity v s zero h i l f = absurd (omega arith)
+moved_velocity v s (suc n) h i l f =
+    below_more (λ k. Fit3 (vec_of v k) → vec3_at (moved (suc n) v s) (velocity_at k) ≡ vec_of v k) n
+    (λ k b q. vec3_beside (moved n v s) (velocity_at n) (vec_of v n) (velocity_at k) (inl (further_on k n b)) ∙ moved_velocity v s n (omega arith) k b q)
+    (vec3_back (moved n v s) (velocity_at n) (vec_of v n) (omega (arith, length_moved n v s)))
+    i (omega arith) f
 
 -- a vector that lies beside all velocities
 moved_beside : (v : List Vec3) (s : List ℕ) (n k : ℕ) → ((j : ℕ) → j < n → Beside k 12 (velocity_at j) 12) → vec3_at (moved n v s) k ≡ vec3_at s k
@@ -220,73 +219,115 @@ module _ (n : ℕ) (v : List Vec3) (s : List ℕ) (h : 26 + 30 * n ≤ length s)
   unfolding holds_in
   positions_moved i = λ j. record { a = position_held i.a j; b = position_held i.b j; c = position_held i.c j; d = position_held i.d j }
 
-  module _ (f : Fit v) where
-    velocity_here : (id : ℕ) → id < n → velocity (point_in (moved n v s) id) ≡ vec_of v id
-    unfolding velocity
-    velocity_here id l = vec3_part (moved n v s) (place_of id) 18 (omega arith) ∙ moved_velocity v f.all s n h id l
+  velocity_here : (id : ℕ) → id < n → Fit3 (vec_of v id) → velocity (point_in (moved n v s) id) ≡ vec_of v id
+  unfolding velocity
+  velocity_here id l f = vec3_part (moved n v s) (place_of id) 18 (omega arith) ∙ moved_velocity v s n h id l f
 
-    held_apart : (id : ℕ) → held_of n v id ≡ held_in velocity n (moved n v s) id
-    unfolding held_in held_of
-    held_apart id = ap (named id) (go (ltb id n) refl)
+  held_apart : (id : ℕ) → FitAt n v id → held_of n v id ≡ held_in velocity n (moved n v s) id
+  unfolding held_in held_of
+  held_apart id f = ap (named id) (go (ltb id n) refl)
+    where
+      go : (t : Bool) → ltb id n ≡ t → cond t (vec_of v id) zero_vector ≡ cond t (velocity (point_in (moved n v s) id)) zero_vector
+      go true q = let l = ltb-true id n q in sym (velocity_here id l (f l))
+      go false q = refl
+
+  pub holds_apart : (i : Ids) → FitOf n v i → holds_of n v i ≡ holds_in velocity n (moved n v s) i
+  unfolding holds_in holds_of
+  holds_apart i f = λ j. record { a = held_apart i.a f.a j; b = held_apart i.b f.b j; c = held_apart i.c f.c j; d = held_apart i.d f.d j }
+
+  module _ (k : n ≤ length v) where
+    lose_here : (id : ℕ) (x : Vec3) → id < n → Fit3 (vec_of v id) → on_part (place_of id) 30 (lose x) (moved n v s) ≡ moved n (set_vec v id (sub (vec_of v id) x)) s
+    unfolding lose
+    lose_here id x l f =
+        let M = moved n v s in
+        let off = place_of id in
+        let w = sub (velocity (part off 30 M)) x in
+        let a : length (take off M) ≡ off = length-take-le off M (omega (arith, length_moved n v s)) in
+        let r : length (part off 30 M) ≡ 30 = length_part M off 30 (omega (arith, length_moved n v s)) in
+        let whole : take off M ++ (part off 30 M ++ drop (off + 30) M) ≡ M =
+        ap (λ (l : List ℕ). take off M ++ (part off 30 M ++ l)) (sym (drop-drop 30 off M)) ∙ ap (take off M ++◌) (take-append-drop 30 (drop off M)) ∙ take-append-drop off M in
+        sym (put_middle (take off M) (part off 30 M) (drop (off + 30) M) off 18 w a (omega (arith, r)))
+        ∙ ap (λ (l : List ℕ). put_vec3 l (off + 18) w) whole
+        ∙ ap (λ (y : Vec3). put_vec3 M (off + 18) (sub y x)) (velocity_here id l f)
+        ∙ moved_put v s (sub (vec_of v id) x) n k id l
+
+    lost_at_lem : (id : ℕ) (x : Vec3) → FitAt n v id → moved n (lost_at n v id x) s ≡ taken_at n (moved n v s) id x
+    unfolding taken_at lost_at
+    lost_at_lem id x f = go (ltb id n) refl
       where
-        go : (t : Bool) → ltb id n ≡ t → cond t (vec_of v id) zero_vector ≡ cond t (velocity (point_in (moved n v s) id)) zero_vector
-        go true q = sym (velocity_here id (ltb-true id n q))
+        go : (t : Bool) → ltb id n ≡ t → moved n (cond t (set_vec v id (sub (vec_of v id) x)) v) s ≡ cond t (on_part (place_of id) 30 (lose x) (moved n v s)) (moved n v s)
+        go true q = let l = ltb-true id n q in sym (lose_here id x l (f l))
         go false q = refl
 
-    pub holds_apart : (i : Ids) → holds_of n v i ≡ holds_in velocity n (moved n v s) i
-    unfolding holds_in holds_of
-    holds_apart i = λ j. record { a = held_apart i.a j; b = held_apart i.b j; c = held_apart i.c j; d = held_apart i.d j }
-
-    module _ (k : n ≤ 4096) where
-      lose_here : (id : ℕ) (x : Vec3) → id < n → on_part (place_of id) 30 (lose x) (moved n v s) ≡ moved n (set_vec v id (sub (vec_of v id) x)) s
-      unfolding lose
-      lose_here id x l =
-          let M = moved n v s in
-          let off = place_of id in
-          let w = sub (velocity (part off 30 M)) x in
-          let a : length (take off M) ≡ off = length-take-le off M (omega (arith, length_moved n v s)) in
-          let r : length (part off 30 M) ≡ 30 = length_part M off 30 (omega (arith, length_moved n v s)) in
-          let whole : take off M ++ (part off 30 M ++ drop (off + 30) M) ≡ M =
-          ap (λ (l : List ℕ). take off M ++ (part off 30 M ++ l)) (sym (drop-drop 30 off M)) ∙ ap (take off M ++◌) (take-append-drop 30 (drop off M)) ∙ take-append-drop off M in
-          sym (put_middle (take off M) (part off 30 M) (drop (off + 30) M) off 18 w a (omega (arith, r)))
-          ∙ ap (λ (l : List ℕ). put_vec3 l (off + 18) w) whole
-          ∙ ap (λ (y : Vec3). put_vec3 M (off + 18) (sub y x)) (velocity_here id l)
-          ∙ moved_put v s (sub (vec_of v id) x) n (omega (arith, f.long)) id l
-
-      lost_at_lem : (id : ℕ) (x : Vec3) → moved n (lost_at n v id x) s ≡ taken_at n (moved n v s) id x
-      unfolding taken_at lost_at
-      lost_at_lem id x = go (ltb id n) refl
-        where
-          go : (t : Bool) → ltb id n ≡ t → moved n (cond t (set_vec v id (sub (vec_of v id) x)) v) s ≡ cond t (on_part (place_of id) 30 (lose x) (moved n v s)) (moved n v s)
-          go true q = sym (lose_here id x (ltb-true id n q))
-          go false q = refl
-
--- ---- a list of as many f32 stays one
-
-fit_set : (v : List Vec3) (i : ℕ) (a : Vec3) → AllFit v → Fit3 a → AllFit (set v i a)
-fit_set [] i a f h k = f k
-fit_set (x ∷ v) zero a f h zero = h
-fit_set (x ∷ v) zero a f h (suc k) = f (suc k)
-fit_set (x ∷ v) (suc i) a f h zero = f zero
-fit_set (x ∷ v) (suc i) a f h (suc k) = fit_set v i a (λ m. f (suc m)) h k
-
-pub fit_vec : (v : List Vec3) (i : ℕ) (w : Vec3) → Fit v → Fit3 w → Fit (set_vec v i w)
-fit_vec v i w f h = record { long = length-set v i w ∙ f.long; all = fit_set v i w f.all h }
+-- ---- what is taken from
 
 sub_fits3 : (a b : Vec3) → Fit3 (sub a b)
 unfolding sub
 sub_fits3 a b = record { x = sub-fits binary32 a.x b.x; y = sub-fits binary32 a.y b.y; z = sub-fits binary32 a.z b.z }
 
-module _ (n : ℕ) (id : ℕ) (x : Vec3) (v : List Vec3) where
-  fit_lost_at : Fit v → Fit (lost_at n v id x)
+module _ (n : ℕ) (v : List Vec3) (id : ℕ) (x : Vec3) where
+  length_lost : length (lost_at n v id x) ≡ length v
   unfolding lost_at
-  fit_lost_at f = go (ltb id n)
+  length_lost = go (ltb id n)
     where
-      go : (t : Bool) → Fit (cond t (set_vec v id (sub (vec_of v id) x)) v)
-      go true = fit_vec v id (sub (vec_of v id) x) f (sub_fits3 (vec_of v id) x)
-      go false = f
+      go : (t : Bool) → length (cond t (set_vec v id (sub (vec_of v id) x)) v) ≡ length v
+      go true = length-set v id (sub (vec_of v id) x)
+      go false = refl
 
-module _ (n : ℕ) (v : List Vec3) (i : Ids) (x : Four Vec3) where
+  module _ (k : n ≤ length v) (j : ℕ) where
+    -- a loss of another place's leaves it as it is
+    apart_lost : (t : Bool) → ltb id n ≡ t → (u : Bool) → ltb j id ≡ u → (w : Bool) → ltb id j ≡ w → (vec_of (lost_at n v id x) j ≡ vec_of v j) ⊎ ((id ≡ j) × (id < n))
+    unfolding lost_at
+    apart_lost false e u p w q = inl (ap (λ (b : Bool). vec_of (cond b (set_vec v id (sub (vec_of v id) x)) v) j) e)
+    apart_lost true e true p w q =
+        inl (ap (λ (b : Bool). vec_of (cond b (set_vec v id (sub (vec_of v id) x)) v) j) e ∙ vec_other v id j (sub (vec_of v id) x) (inl (ltb-true j id p)))
+    apart_lost true e false p true q =
+        inl (ap (λ (b : Bool). vec_of (cond b (set_vec v id (sub (vec_of v id) x)) v) j) e ∙ vec_other v id j (sub (vec_of v id) x) (inr (ltb-true id j q)))
+    apart_lost true e false p false q = inr (omega (arith, ltb-false j id p, ltb-false id j q), ltb-true id n e)
+
+    fit_before : FitAt n v id → FitAt n (lost_at n v id x) j → FitAt n v j
+    fit_before f g l = go (apart_lost (ltb id n) refl (ltb j id) refl (ltb id j) refl)
+      where
+        go : (vec_of (lost_at n v id x) j ≡ vec_of v j) ⊎ ((id ≡ j) × (id < n)) → Fit3 (vec_of v j)
+        go (inl e) = subst Fit3 e (g l)
+        go (inr e) = subst (λ (m : ℕ). Fit3 (vec_of v m)) e.0 (f e.1)
+
+    fit_after : FitAt n v j → FitAt n (lost_at n v id x) j
+    unfolding lost_at
+    fit_after f l = go (ltb id n) refl
+      where
+        here : id < n → Fit3 (vec_of (set_vec v id (sub (vec_of v id) x)) id)
+        here b = subst Fit3 (sym (vec_same v id (sub (vec_of v id) x) (omega arith))) (sub_fits3 (vec_of v id) x)
+
+        set_fits : id < n → (u : Bool) → ltb j id ≡ u → (w : Bool) → ltb id j ≡ w → Fit3 (vec_of (set_vec v id (sub (vec_of v id) x)) j)
+        set_fits b true p w q = subst Fit3 (sym (vec_other v id j (sub (vec_of v id) x) (inl (ltb-true j id p)))) (f l)
+        set_fits b false p true q = subst Fit3 (sym (vec_other v id j (sub (vec_of v id) x) (inr (ltb-true id j q)))) (f l)
+        set_fits b false p false q =
+            let e : id ≡ j = omega (arith, ltb-false j id p, ltb-false id j q) in
+            subst (λ (m : ℕ). Fit3 (vec_of (set_vec v id (sub (vec_of v id) x)) m)) e (here b)
+
+        go : (t : Bool) → ltb id n ≡ t → Fit3 (vec_of (cond t (set_vec v id (sub (vec_of v id) x)) v) j)
+        go true e = set_fits (ltb-true id n e) (ltb j id) refl (ltb id j) refl
+        go false e = f l
+
+-- what a place lost before another was taken from says nothing against the other
+module _ (v v' : List Vec3) (id : ℕ) (x : Vec3) (e : v' ≡ lost_at (length v) v id x) (f : FitAt (length v) v id) where
+  fit_first : (j : ℕ) → FitAt (length v') v' j → FitAt (length v) v j
+  fit_first j g =
+      fit_before (length v) v id x (omega arith) j f
+      (λ l. subst Fit3 (ap (λ (u : List Vec3). vec_of u j) e) (g (omega (arith, l, ap length e, length_lost (length v) v id x))))
+
+pub fits_taken : (v v1 v2 v3 : List Vec3) (i : Ids) (x : Four Vec3)
+    → v1 ≡ lost_at (length v) v i.a x.a → v2 ≡ lost_at (length v1) v1 i.b x.b → v3 ≡ lost_at (length v2) v2 i.c x.c
+    → FitAt (length v) v i.a → FitAt (length v1) v1 i.b → FitAt (length v2) v2 i.c → FitAt (length v3) v3 i.d → FitOf (length v) v i
+fits_taken v v1 v2 v3 i x e1 e2 e3 fa fb fc fd = record {
+  a = fa;
+  b = fit_first v v1 i.a x.a e1 fa i.b fb;
+  c = fit_first v v1 i.a x.a e1 fa i.c (fit_first v1 v2 i.b x.b e2 fb i.c fc);
+  d = fit_first v v1 i.a x.a e1 fa i.d (fit_first v1 v2 i.b x.b e2 fb i.d (fit_first v2 v3 i.c x.c e3 fc i.d fd));
+}
+
+module _ (n : ℕ) (v : List Vec3) (i : Ids) (x : Four Vec3) (k : n ≤ length v) where
   abbrev v1 : List Vec3
   v1 = lost_at n v i.a x.a
 
@@ -296,29 +337,29 @@ module _ (n : ℕ) (v : List Vec3) (i : Ids) (x : Four Vec3) where
   abbrev v3 : List Vec3
   v3 = lost_at n v2 i.c x.c
 
-  module _ (f : Fit v) where
-    f1 : Fit v1
-    f1 = fit_lost_at n i.a x.a v f
+  k1 : n ≤ length v1
+  k1 = omega (arith, length_lost n v i.a x.a)
 
-    f2 : Fit v2
-    f2 = fit_lost_at n i.b x.b v1 f1
+  k2 : n ≤ length v2
+  k2 = omega (arith, length_lost n v1 i.b x.b, k1)
 
-    f3 : Fit v3
-    f3 = fit_lost_at n i.c x.c v2 f2
+  k3 : n ≤ length v3
+  k3 = omega (arith, length_lost n v2 i.c x.c, k2)
 
-    pub fit_lost : Fit (lost n v i x)
-    unfolding lost
-    fit_lost = fit_lost_at n i.d x.d v3 f3
-
-    pub lost_apart : (s : List ℕ) → 26 + 30 * n ≤ length s → n ≤ 4096 → moved n (lost n v i x) s ≡ taken n (moved n v s) i x
-    unfolding lost taken
-    lost_apart s h k =
-        lost_at_lem n v3 s h f3 k i.d x.d
-        ∙ ap (λ (t : List ℕ). taken_at n t i.d x.d)
-        (lost_at_lem n v2 s h f2 k i.c x.c
-        ∙ ap (λ (t : List ℕ). taken_at n t i.c x.c)
-        (lost_at_lem n v1 s h f1 k i.b x.b
-        ∙ ap (λ (t : List ℕ). taken_at n t i.b x.b) (lost_at_lem n v s h f k i.a x.a)))
+  pub lost_apart : FitOf n v i → (s : List ℕ) → 26 + 30 * n ≤ length s → moved n (lost n v i x) s ≡ taken n (moved n v s) i x
+  unfolding lost taken
+  lost_apart f s h =
+      let b1 = fit_after n v i.a x.a k i.b f.b in
+      let c1 = fit_after n v i.a x.a k i.c f.c in
+      let d1 = fit_after n v i.a x.a k i.d f.d in
+      let c2 = fit_after n v1 i.b x.b k1 i.c c1 in
+      let d2 = fit_after n v1 i.b x.b k1 i.d d1 in
+      lost_at_lem n v3 s h k3 i.d x.d (fit_after n v2 i.c x.c k2 i.d d2)
+      ∙ ap (λ (t : List ℕ). taken_at n t i.d x.d)
+      (lost_at_lem n v2 s h k2 i.c x.c c2
+      ∙ ap (λ (t : List ℕ). taken_at n t i.c x.c)
+      (lost_at_lem n v1 s h k1 i.b x.b b1
+      ∙ ap (λ (t : List ℕ). taken_at n t i.b x.b) (lost_at_lem n v s h k i.a x.a f.a)))
 
 -- ---- one velocity after another set apart
 
@@ -328,17 +369,7 @@ apart_more s v i w h a e =
     (λ k b. vec_other v i k w (inl b) ∙ a k b)
     (vec_same v i w h ∙ e)
 
-pub read_fits : (s : List ℕ) (k : ℕ) → Fit3 (vec3_at s k)
-unfolding vec3_at
-read_fits s k = record { x = of_bits-fits binary32 (le32 s k); y = of_bits-fits binary32 (le32 s (k + 4)); z = of_bits-fits binary32 (le32 s (k + 8)) }
-
--- the loop that sets them apart
-pub gathered_more : (s : List ℕ) (v v' : List Vec3) (i : ℕ) (w : Vec3) → i < 4096 → Apart i s v → Fit v → w ≡ vec3_at s (velocity_at i) → v' ≡ set_vec v i w → Apart (i + 1) s v' × Fit v'
-gathered_more s v v' i w h a f e g =
-    subst (λ (u : List Vec3). Apart (i + 1) s u × Fit u) (sym g)
-    (apart_more s v i w (omega (arith, f.long)) a e, fit_vec v i w f (subst Fit3 (sym e) (read_fits s (velocity_at i))))
-
--- and the one that puts them back
+-- ---- and put back
 module _ (v : List Vec3) (s₀ : List ℕ) (i : ℕ) (s : List ℕ) (e : s ≡ moved i v s₀) where
   pub scattered_more : (s' : List ℕ) (w : Vec3) → w ≡ vec_of v i → s' ≡ put_vec3 s (velocity_at i) w → s' ≡ moved (i + 1) v s₀
   unfolding moved
@@ -347,21 +378,3 @@ module _ (v : List Vec3) (s₀ : List ℕ) (i : ℕ) (s : List ℕ) (e : s ≡ m
 pub scattered_none : (v : List Vec3) (s : List ℕ) → s ≡ moved 0 v s
 unfolding moved
 scattered_none v s = refl
-
--- ---- an array of one vector
-
-all_same : (n : ℕ) (w : Vec3) → Fit3 w → AllFit (replicate n w)
-all_same zero w h k = record { x = nan-fits binary32; y = nan-fits binary32; z = nan-fits binary32 }
-all_same (suc n) w h zero = h
-all_same (suc n) w h (suc k) = all_same n w h k
-
-long_same : (n : ℕ) (w : Vec3) → length (replicate n w) ≡ n
-long_same zero w = refl
-long_same (suc n) w = ap suc (long_same n w)
-
-pub fit_same : (w : Vec3) → Fit3 w → Fit (replicate 4096 w)
-fit_same w h = record { long = long_same 4096 w; all = all_same 4096 w h }
-
-pub fit_zeros : Fit (replicate 4096 zero_vector)
-unfolding zero_vector
-fit_zeros = fit_same zero_vector (record { x = of_bits-fits binary32 0; y = of_bits-fits binary32 0; z = of_bits-fits binary32 0 })

@@ -1,5 +1,5 @@
 -- The velocities of a frame's points set apart, as a list of vectors, one for each point: which frame such a list and the frame's bytes stand for. Definitions only. Assumes nothing.
-use Rattle.std.specs.Prelude.{ℕ, zero, suc, ◌+◌, ◌<◌, cond, List, ◌≡◌, T, ltb, length, get_or, set, Option}
+use Rattle.std.specs.Prelude.{ℕ, zero, suc, ◌+◌, ◌<◌, cond, List, ◌≡◌, T, ltb, get_or, set, Option}
 use Rattle.std.specs.Float.{nan, binary32}
 use Rattle.std.specs.Float.Ieee.{fits}
 use Rattle.records.specs.Layout as layout
@@ -8,6 +8,7 @@ use Rattle.vector.specs.declared.Vec3.{Vec3}
 use Rattle.vector.specs.declared.Four.{Four}
 use Rattle.places.specs.Places.{Holds, Ids}
 use Rattle.floats.specs.Fields.{vec3_at, put_vec3}
+use Rattle.floats.proofs.Same.{Finite3}
 use Rattle.points.specs.InFrame.{place_of, named}
 
 -- where the velocity of point i is
@@ -31,18 +32,26 @@ unfoldable pub moved : ℕ → List Vec3 → List ℕ → List ℕ
 moved zero v s = s
 moved (suc n) v s = put_vec3 (moved n v s) (velocity_at n) (vec_of v n)
 
--- every element is three f32, and there is one for each of 4,096 points
+-- three f32
 pub record Fit3 (w : Vec3) : Type 0 where
   pub x : T (fits binary32 w.x)
   pub y : T (fits binary32 w.y)
   pub z : T (fits binary32 w.z)
 
-abbrev pub AllFit : List Vec3 → Type 0
-AllFit v = (k : ℕ) → Fit3 (vec_of v k)
+-- the velocity of point id is, where it is below n
+abbrev pub FitAt : ℕ → List Vec3 → ℕ → Type 0
+FitAt n v id = id < n → Fit3 (vec_of v id)
 
-pub record Fit (v : List Vec3) : Type 0 where
-  pub long : length v ≡ 4096
-  pub all : AllFit v
+-- those of a row's places are
+pub record FitOf (n : ℕ) (v : List Vec3) (i : Ids) : Type 0 where
+  pub a : FitAt n v i.a
+  pub b : FitAt n v i.b
+  pub c : FitAt n v i.c
+  pub d : FitAt n v i.d
+
+-- the velocities of the n points are finite, as a run finds them
+abbrev pub Calm : ℕ → List ℕ → Type 0
+Calm n s = (i : ℕ) → i < n → Finite3 s (velocity_at i)
 
 -- v has the velocities of the first n points of s
 abbrev pub Apart : ℕ → List ℕ → List Vec3 → Type 0

@@ -5,11 +5,10 @@
 pub mod velocities;
 
 ghost use Rattle.std.specs.Prelude.{◌≡◌, ℕ, ◌+◌, ◌*◌, ◌≤◌, ◌<◌, length};
-ghost use Rattle.floats.specs.Fields.{vec3_at};
 ghost use Rattle.stored.specs.Points.{position};
 ghost use Rattle.points.specs.InFrame.{place_of, point_in, named, held_in, holds_in};
 
-use places::{Holds, Ids};
+use places::{Holds, Ids, NOBODY};
 use records::layout;
 use vector::Vec3;
 
@@ -21,42 +20,50 @@ fn place_of(i: usize) -> usize
     layout::HEAD_END + layout::POINT_END * i
 }
 
-// The bytes of point `id`.
-fn point_in(s: &[u8], id: usize) -> &[u8]
-    requires { (id ≤ 4096) × (26 + 30 * id + 30 ≤ length s.now) }
-    ensures { (result.now ≡ point_in s.now id) × (length result.now ≡ 30) }
-{
-    let off = place_of(id);
-    &s[off..off + layout::POINT_END]
-}
-
 // What a place holds: nothing where it is not named.
 fn named(id: u32, x: Vec3) -> Option<Vec3>
     ensures { result ≡ named id x }
 {
-    if id == 0xffff_ffff { None } else { Some(x) }
+    (id != NOBODY).then_some(x)
 }
 
-// The three floats at byte `at` of point `id`.
-#[tactic(auto, unfolding(crate::specs::InFrame::held_in))]
-fn held(n: usize, s: &[u8], id: u32, at: usize) -> Option<Vec3>
-    requires { (n ≤ 4096) × ((26 + 30 * n ≤ length s.now) × (at + 12 ≤ 30)) }
-    ensures { result ≡ held_in (λ p. vec3_at p at) n s.now id }
-{
-    let i = id as usize;
-    let x = if i < n {
-        floats::vec3_at(point_in(s, i), at)
-    } else {
-        Vec3::zero()
-    };
-    named(id, x)
+// The first `count` points of a frame.
+#[derive(Clone, Copy)]
+pub struct Points<'a> {
+    pub frame: &'a [u8],
+    pub count: usize,
+    pub ghost few: { count ≤ 4096 },
+    pub ghost room: { 26 + 30 * count ≤ length frame.now },
 }
 
-// The positions of a row's places, among n points.
-#[tactic(auto, unfolding(crate::specs::InFrame::holds_in, stored::specs::Points::position))]
-pub fn positions(n: usize, s: &[u8], i: Ids) -> Holds
-    requires { (n ≤ 4096) × (26 + 30 * n ≤ length s.now) }
-    ensures { result ≡ holds_in position n s.now i }
-{
-    i.map(|id| held(n, s, id, layout::POINT_POSITION))
+impl<'a> Points<'a> {
+    // The bytes of point i.
+    fn point(self, i: usize) -> &'a [u8]
+        requires { i < self.count }
+        ensures { (result.now ≡ point_in self.entry.frame.now i) × (length result.now ≡ 30) }
+    {
+        let off = place_of(i);
+        &self.frame[off..off + layout::POINT_END]
+    }
+
+    #[tactic(auto, unfolding(crate::specs::InFrame::held_in, stored::specs::Points::position))]
+    fn position(self, id: u32) -> Option<Vec3>
+        ensures { result ≡ held_in position self.entry.count self.entry.frame.now id }
+    {
+        let i = id as usize;
+        let x = if i < self.count {
+            floats::vec3_at(self.point(i), layout::POINT_POSITION)
+        } else {
+            Vec3::zero()
+        };
+        named(id, x)
+    }
+
+    // Those of a row's places.
+    #[tactic(auto, unfolding(crate::specs::InFrame::holds_in))]
+    pub fn positions(self, i: Ids) -> Holds
+        ensures { result ≡ holds_in position self.entry.count self.entry.frame.now i }
+    {
+        i.map(|id| self.position(id))
+    }
 }

@@ -1,21 +1,12 @@
-// The velocities set apart: a vector for each point, so that a sweep reads and writes no bytes for them.
-ghost use Rattle.std.specs.Prelude.{◌≡◌, ◌+◌, ◌*◌, ◌≤◌, length};
-ghost use Rattle.points.specs.Apart.{velocity_at, moved, Fit, Apart, held_of, holds_of, lost_at, lost};
+// The velocities set apart: a vector for each point of a frame, so that a sweep reads and writes no bytes for them.
+ghost use Rattle.std.specs.Prelude.{◌≡◌, ◌+◌, ◌*◌, ◌≤◌, ◌<◌, length};
+ghost use Rattle.points.specs.Apart.{velocity_at, vec_of, moved, Apart, Calm, held_of, holds_of, lost_at, lost, FitAt, FitOf};
 
 use crate::{named, place_of};
 use floats::Field;
 use places::{Holds, Ids};
 use records::layout;
 use vector::{Four, Vec3};
-
-// The velocities of the first `count` points of a frame.
-#[derive(Drop)]
-pub struct Velocities {
-    pub count: usize,
-    pub all: [Vec3; 4096],
-    pub ghost few: { count ≤ 4096 },
-    pub ghost fit: { Fit all },
-}
 
 // Where the velocity of point i is.
 fn velocity_at(i: usize) -> usize
@@ -25,72 +16,71 @@ fn velocity_at(i: usize) -> usize
     place_of(i) + layout::POINT_VELOCITY
 }
 
-impl Velocities {
-    // Taken out of the frame.
-    pub fn gather(count: usize, s: &[u8]) -> Velocities
-        requires { (count ≤ 4096) × (26 + 30 * count ≤ length s.now) }
-        ensures counted { result.count ≡ count }
-        ensures apart { Apart count s.now result.all }
-    {
-        let zero = Vec3::zero();
-        let mut all = [zero; 4096];
-        for i in 0..count {
-            all[i] = floats::vec3_at(s, velocity_at(i));
-        }
-        Velocities { count, all }
+// Takes those of as many points as v has out of the frame.
+pub fn gather(s: &[u8], v: &mut [Vec3])
+    requires { (length v.old ≤ 4096) × (26 + 30 * length v.old ≤ length s.now) }
+    ensures apart { Apart (length v.old) s.now v.new }
+    ensures same { Calm (length v.old) s.now → moved (length v.old) v.new s.now ≡ s.now }
+{
+    for (i, x) in v.iter_mut().enumerate() {
+        *x = floats::vec3_at(s, velocity_at(i));
     }
+}
 
-    // Put back.
-    pub fn scatter(&self, s: &mut [u8])
-        requires { 26 + 30 * self.now.count ≤ length s.old }
-        ensures { s.new ≡ moved self.now.count self.now.all s.old }
-    {
-        for i in 0..self.count {
-            self.all[i].put(s, velocity_at(i));
-        }
+// Puts them back.
+pub fn scatter(v: &[Vec3], s: &mut [u8])
+    requires { (length v.now ≤ 4096) × (26 + 30 * length v.now ≤ length s.old) }
+    ensures { s.new ≡ moved (length v.now) v.now s.old }
+{
+    for (i, x) in v.iter().enumerate() {
+        x.put(s, velocity_at(i));
     }
+}
 
-    #[tactic(auto, unfolding(crate::specs::Apart::held_of))]
-    fn held(&self, id: u32) -> Option<Vec3>
-        ensures { result ≡ held_of self.now.count self.now.all id }
-    {
-        let i = id as usize;
-        let x = if i < self.count {
-            self.all[i]
-        } else {
-            Vec3::zero()
-        };
-        named(id, x)
-    }
+#[tactic(auto, unfolding(crate::specs::Apart::held_of))]
+fn held(v: &[Vec3], id: u32) -> Option<Vec3>
+    ensures { result ≡ held_of (length v.now) v.now id }
+{
+    let i = id as usize;
+    let x = if i < v.len() { v[i] } else { Vec3::zero() };
+    named(id, x)
+}
 
-    // Those of a row's places.
-    #[tactic(auto, unfolding(crate::specs::Apart::holds_of))]
-    pub fn of(&self, i: Ids) -> Holds
-        ensures { result ≡ holds_of self.now.count self.now.all i }
-    {
-        i.map(|id| self.held(id))
-    }
+// Those of a row's places.
+#[tactic(auto, unfolding(crate::specs::Apart::holds_of))]
+pub fn of(v: &[Vec3], i: Ids) -> Holds
+    ensures { result ≡ holds_of (length v.now) v.now i }
+{
+    i.map(|id| held(v, id))
+}
 
-    #[tactic(auto, unfolding(crate::specs::Apart::lost_at))]
-    fn take_at(&mut self, id: u32, x: Vec3)
-        ensures counted { self.new.count ≡ self.old.count }
-        ensures lost { self.new.all ≡ lost_at self.old.count self.old.all id x }
-    {
-        let i = id as usize;
-        if i < self.count {
-            self.all[i] = self.all[i] - x;
-        }
-    }
+// Of a value its type says that it is three f32, of the elements of a slice none does: so a velocity is read by a function.
+fn read(v: &[Vec3], i: usize) -> Vec3
+    requires { i < length v.now }
+    ensures { result ≡ vec_of v.now i }
+{
+    v[i]
+}
 
-    // What each place of a row loses, place after place: a row may name one point twice.
-    #[tactic(auto, unfolding(crate::specs::Apart::lost))]
-    pub fn take(&mut self, i: Ids, x: Four<Vec3>)
-        ensures counted { self.new.count ≡ self.old.count }
-        ensures lost { self.new.all ≡ lost self.old.count self.old.all i x }
-    {
-        self.take_at(i.a, x.a);
-        self.take_at(i.b, x.b);
-        self.take_at(i.c, x.c);
-        self.take_at(i.d, x.d);
+#[tactic(auto, unfolding(crate::specs::Apart::lost_at))]
+fn take_at(v: &mut [Vec3], id: u32, x: Vec3)
+    ensures lost { v.new ≡ lost_at (length v.old) v.old id x }
+    ensures fit { FitAt (length v.old) v.old id }
+{
+    let i = id as usize;
+    if i < v.len() {
+        v[i] = read(v, i) - x;
     }
+}
+
+// What each place of a row loses, place after place: a row may name one point twice.
+#[tactic(auto, unfolding(crate::specs::Apart::lost))]
+pub fn take(v: &mut [Vec3], i: Ids, x: Four<Vec3>)
+    ensures lost { v.new ≡ lost (length v.old) v.old i x }
+    ensures fit { FitOf (length v.old) v.old i }
+{
+    take_at(v, i.a, x.a);
+    take_at(v, i.b, x.b);
+    take_at(v, i.c, x.c);
+    take_at(v, i.d, x.d);
 }

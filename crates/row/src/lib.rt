@@ -9,7 +9,7 @@ ghost use Rattle.stored.specs.Phases as spec;
 ghost use Rattle.row.specs.Widths.{row_length, Whole};
 
 use floats::row_bytes::RowBytes;
-use places::{Holds, Ids};
+use places::{Holds, Ids, NOBODY};
 use records::{RowKind, layout};
 use vector::{Four, Vec3};
 
@@ -17,7 +17,7 @@ use vector::{Four, Vec3};
 fn counted(count: u16, k: u16, id: u32) -> u32
     ensures { result ≡ rows.counted count k id }
 {
-    if k < count { id } else { 0xffff_ffff }
+    if k < count { id } else { NOBODY }
 }
 
 #[tactic(auto, unfolding(stored::specs::Phases::counted_ids))]
@@ -32,25 +32,35 @@ fn counted_ids(count: u16, i: Ids) -> Ids
     }
 }
 
-#[tactic(auto, using(crate::proofs::ByKind::long_row, crate::proofs::ByKind::names_of_kind))]
-pub fn names_at(b: &[u8]) -> Ids
-    requires { row_length (le16 b.now 4) ≤ length b.now }
-    ensures { result ≡ spec.names_at b.now }
-{
-    let i = floats::ids_at(b, layout::ROW_IDS);
-    match RowKind::of(b) {
-        RowKind::Scalar => counted_ids(little_endian::get_u16(b, layout::SCALAR_COUNT), i),
-        RowKind::Corotational | RowKind::NeoHookean => i,
-    }
+// The bytes of a row's record, with room for the fields of its kind.
+#[derive(Clone, Copy)]
+pub struct Record<'a> {
+    pub bytes: &'a [u8],
+    pub ghost wide: { row_length (le16 bytes.now 4) ≤ length bytes.now },
 }
 
-// Whether the row's flag is set.
-#[tactic(auto, using(crate::proofs::ByKind::long_row), unfolding(stored::specs::Phases::is_strained_at))]
-pub fn is_strained(b: &[u8]) -> bool
-    requires { row_length (le16 b.now 4) ≤ length b.now }
-    ensures { result ≡ spec.is_strained_at b.now }
-{
-    little_endian::get_u16(b, layout::ROW_STRAINED) == 1
+impl<'a> Record<'a> {
+    #[tactic(auto, using(crate::proofs::ByKind::long_row, crate::proofs::ByKind::names_of_kind))]
+    pub fn names(self) -> Ids
+        ensures { result ≡ spec.names_at self.entry.bytes.now }
+    {
+        let i = floats::ids_at(self.bytes, layout::ROW_IDS);
+        match RowKind::of(self.bytes) {
+            RowKind::Scalar => counted_ids(
+                little_endian::get_u16(self.bytes, layout::SCALAR_COUNT),
+                i,
+            ),
+            RowKind::Corotational | RowKind::NeoHookean => i,
+        }
+    }
+
+    // Whether the row's flag is set.
+    #[tactic(auto, using(crate::proofs::ByKind::long_row), unfolding(stored::specs::Phases::is_strained_at))]
+    pub fn is_strained(self) -> bool
+        ensures { result ≡ spec.is_strained_at self.entry.bytes.now }
+    {
+        little_endian::get_u16(self.bytes, layout::ROW_STRAINED) == 1
+    }
 }
 
 // ---- the phases. The record is read, and then what the phase assigns is put into it

@@ -26,10 +26,10 @@ use Rattle.stored.specs.Run.{updates, warms, warm_coefficient, least_strain, lay
 use Rattle.points.specs.InFrame.{Sized}
 use Rattle.row.specs.Widths.{row_length}
 use Rattle.floats.proofs.Same.{Finite3}
-use Rattle.points.specs.Apart.{velocity_at}
+use Rattle.points.specs.Apart.{velocity_at, Calm}
 use Rattle.run.proofs.Calm.{points_finite}
 use Rattle.run.proofs.Written.{row_written}
-use Rattle.sweep.specs.Laid.{Calm, RowSized, RowsSized, phases, Laid, Ready, Ran}
+use Rattle.sweep.specs.Laid.{RowSized, RowsSized, phases, Laid, Ready, Ran}
 use Rattle.sweep.specs.declared.Phases.{Phases}
 use Rattle.run.specs.Start.{main_phases}
 

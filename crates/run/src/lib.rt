@@ -10,7 +10,7 @@ ghost use Rattle.run.specs.Start.{main_phases};
 use records::{Refused, layout};
 use sweep::Phases;
 
-// The phases that the head's mode asks for, with their numbers.
+// The phases that the head's mode asks for, with their numbers. The mode's two bits are the frame's own number, tested as the rule does.
 #[tactic(auto, unfolding(crate::specs::Start::main_phases))]
 fn main_phases(s: &[u8]) -> Phases
     requires { 26 ≤ length s.now }

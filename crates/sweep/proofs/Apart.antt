@@ -1,7 +1,14 @@
 -- A row's step where the velocities are set apart is its step in the frame that both stand for. Assumes nothing.
 use Prim.Native.Nat.{ℕ, ◌+◌, ◌*◌, ◌-◌, ◌≤◌, ◌<◌}
-use mathlib.Core.Path.{◌≡◌, sym, ap, ◌∙◌, subst}
+use mathlib.Core.Path.{◌≡◌, refl, sym, ap, ◌∙◌, subst}
 use mathlib.Core.List.{List}
+use mathlib.Core.Bool.{Bool, true, false, cond}
+use lib.Dec.{eqb}
+use borrow.Author.Tests.{eqb-true}
+use Rattle.std.proofs.lemmas.Bool.{false≢true}
+use Rattle.records.specs.Kinds.{row_kind}
+use Rattle.records.specs.declared.kinds.RowKind.{RowKind}
+use Rattle.records.specs.declared.kinds.RowKind.TheVariants.{Scalar, Corotational, NeoHookean}
 use native.Mathlib.Omega.{arith}
 use native.Mathlib.Nat.{add-zero, add-sub_cancel_left}
 use lib.Ieee.{Float}
@@ -17,7 +24,7 @@ use Rattle.stored.specs.Phases.{names_at, update_row, warm_row, warm_loss, solve
 use Rattle.stored.specs.Points.{Points, position, update, warm, solve}
 use Rattle.floats.specs.Written.{AllWritten}
 use Rattle.points.specs.InFrame.{on_part, holds_in, taken}
-use Rattle.points.specs.Apart.{moved, Fit, holds_of, lost}
+use Rattle.points.specs.Apart.{moved, FitOf, holds_of, lost}
 use Rattle.points.proofs.Moved.{length_moved, moved_part, moved_on_part, positions_moved, holds_apart, lost_apart}
 use Rattle.sweep.specs.Laid.{Standing, Stepped, step_of, Ready, Swept}
 use Rattle.sweep.specs.declared.Turn.{Turn}
@@ -33,6 +40,23 @@ pub row_found : (off : ℕ) (s : List ℕ) → off + record_length s off ≤ len
 row_found off s h e =
     let p : take (off + 182 - off) (drop off s) ≡ record_at s off = ap (λ (m : ℕ). take m (drop off s)) (add-sub_cancel_left off 182 ∙ sym e) in
     (p, ap length p ∙ length_part s off (record_length s off) h)
+
+abbrev is_scalar : RowKind → Bool
+is_scalar Scalar = true
+is_scalar Corotational = false
+is_scalar NeoHookean = false
+
+-- the number of a scalar row, as it is read from the bytes from off on
+pub scalar_said : (off : ℕ) (s : List ℕ) {k : RowKind} → off + 6 ≤ length s → k ≡ row_kind (le16 (take (length s - off) (drop off s)) 4) → k ≡ Scalar → le16 s (off + 4) ≡ 3
+scalar_said off s h e z = sym (le16_part s off (length s - off) 4 (omega arith)) ∙ go (eqb n 3) refl (eqb n 4) (sym (ap is_scalar (sym e ∙ z)))
+  where
+    n : ℕ
+    n = le16 (take (length s - off) (drop off s)) 4
+
+    go : (t : Bool) → eqb n 3 ≡ t → (u : Bool) → true ≡ is_scalar (cond t Scalar (cond u Corotational NeoHookean)) → n ≡ 3
+    go true q u p = eqb-true n 3 q
+    go false q true p = absurd (false≢true (sym p))
+    go false q false p = absurd (false≢true (sym p))
 
 -- ---- what stands behind the points
 
@@ -100,9 +124,9 @@ module _ {n off len : ℕ} (v : List Vec3) (s : List ℕ) (y : Standing n off le
         updated n off len (moved n v s) least (record_at s off) i held (moved n v s') record_apart names (g ∙ sym (positions_moved n v s room_apart.points i))
         (ap (moved n v) (h ∙ part_of (update_row least held)) ∙ moved_on_part n v s off behind inside len (update_row least held)) u
 
-    module _ (q : Fit v) (s₁ : List ℕ) (p : 26 + 30 * n ≤ length s₁) (x : Four Vec3) (v' : List Vec3) (t : v' ≡ lost n v i x) where
+    module _ (k : n ≤ length v) (q : FitOf n v i) (s₁ : List ℕ) (p : 26 + 30 * n ≤ length s₁) (x : Four Vec3) (v' : List Vec3) (t : v' ≡ lost n v i x) where
       lost_here : moved n v' s₁ ≡ taken n (moved n v s₁) i x
-      lost_here = ap (λ (u : List Vec3). moved n u s₁) t ∙ lost_apart n v i x q s₁ p room_apart.few
+      lost_here = ap (λ (u : List Vec3). moved n u s₁) t ∙ lost_apart n v i x k q s₁ p
 
       pub warmed_apart : (coeff : Float) → s₁ ≡ on_record off (warm_row coeff) s → x ≡ warm_loss coeff (record_at s off)
           → AllWritten (warm_row coeff (record_at s off)) → Stepped (warm n coeff) n off len (moved n v s) (moved n v' s₁)
@@ -115,7 +139,7 @@ module _ {n off len : ℕ} (v : List Vec3) (s : List ℕ) (y : Standing n off le
           → AllWritten (solve_row vel (record_at s off)) → Stepped (solve n) n off len (moved n v s) (moved n v' s₁)
       solved_apart vel d g h u =
           solved n off len (moved n v s) (record_at s off) i vel x (moved n v s₁) (moved n v' s₁) record_apart names
-          (d ∙ holds_apart n v s room_apart.points q i)
+          (d ∙ holds_apart n v s room_apart.points i q)
           (ap (moved n v) (g ∙ part_of (solve_row vel)) ∙ moved_on_part n v s off behind inside len (solve_row vel))
           (h ∙ ap (solve_loss vel) (record_of ∙ sym (moved_part n v s off behind inside len))) lost_here u
 

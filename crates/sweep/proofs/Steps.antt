@@ -3,14 +3,14 @@ use Rattle.std.proofs.Common.{ℕ, ◌≡◌, refl, sym, ap, ◌∙◌, subst, B
 use Rattle.std.proofs.lemmas.Bool.{false≢true}
 use Rattle.little_endian.specs.Bytes.{part}
 use Rattle.records.specs.Records.{record_at, flatten}
-use Rattle.relisting.specs.Steps.{fetch, alters, ◌then◌, pick, choose, nothing}
+use Rattle.relisting.specs.Steps.{fetch, alters, ◌then◌, pick, nothing}
 use Rattle.vector.specs.declared.Vec3.{Vec3}
 use Rattle.vector.specs.declared.Four.{Four}
 use Rattle.places.specs.Places.{Holds, Ids}
 use Rattle.rows.specs.Row.{places, holds_of, losses_of, four}
 use Rattle.stored.specs.Read.{row_of}
 use Rattle.stored.specs.Phases.{names_at, is_strained_at, update_row, warm_row, warm_loss, solve_row, solve_loss}
-use Rattle.stored.specs.Points.{Points, position, velocity, lose, update, warm, solve, resweep_step}
+use Rattle.stored.specs.Points.{Points, position, velocity, lose, update, warm, solve}
 use Rattle.stored.specs.Sizes.{update_steady, warm_steady, solve_steady, lose_alike}
 use Rattle.stored.specs.PhaseLaws.{names_on, names_are, update_names, warm_names, strained_is, positions_on, velocities_on, update_is, update_leaves, warm_is, warm_loses, solve_is, solve_loses}
 use Rattle.floats.specs.Written.{AllWritten}

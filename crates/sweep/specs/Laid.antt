@@ -1,5 +1,5 @@
 -- What the inner functions of a run cite: bytes that are laid out from a head, points and rows, and what a step or a sweep makes of them. A reader of the rules does not need it: the exported contract is stated with stored/specs/Run.antt. Definitions only. Assumes nothing.
-use Rattle.std.specs.Prelude.{ℕ, ◌+◌, ◌*◌, ◌≤◌, ◌<◌, ◌≡◌, List, [], ◌∷◌, ◌++◌, length, replicate, Float, Bool, false, not, Option, Some, None}
+use Rattle.std.specs.Prelude.{ℕ, ◌+◌, ◌*◌, ◌≤◌, ◌≡◌, List, [], ◌∷◌, ◌++◌, length, replicate, Float, Bool, false, not, Option, Some, None}
 use Rattle.little_endian.specs.Bytes.{le16}
 use Rattle.records.specs.Records.{record_length, flatten}
 use Rattle.relisting.specs.Steps.{◌then◌, nothing, sweep, sweeps, run}
@@ -7,9 +7,7 @@ use Rattle.stored.specs.Points.{Points, update, warm, solve, resweep_step}
 use Rattle.stored.specs.Phases.{is_strained_at}
 use Rattle.stored.specs.Run.{lay}
 use Rattle.floats.specs.Written.{AllWritten}
-use Rattle.floats.proofs.Same.{Finite3}
 use Rattle.points.specs.InFrame.{Sized}
-use Rattle.points.specs.Apart.{velocity_at}
 use Rattle.row.specs.Widths.{row_length}
 use Rattle.sweep.specs.declared.Phases.{Phases}
 use Rattle.sweep.specs.declared.Turn.{Turn}
@@ -107,7 +105,3 @@ Reswept k n r = Made (sweeps (replicate k (resweep_step n))) n r
 
 abbrev pub Ran : Phases → ℕ → ℕ → ℕ → List ℕ → List ℕ → Type 0
 Ran p k n r = Made (λ x. run (phases n p) (resweep_step n) k x.0 x.1) n r
-
--- the velocities of the n points are finite, as a run finds them
-abbrev pub Calm : ℕ → List ℕ → Type 0
-Calm n s = (i : ℕ) → i < n → Finite3 s (velocity_at i)

@@ -4,14 +4,16 @@
 ghost use Rattle.std.specs.Prelude.{◌≡◌, ℕ, ◌+◌, ◌≤◌, length};
 ghost use Rattle.little_endian.specs.Bytes.{le16};
 ghost use Rattle.records.specs.Records.{record_length, record_at};
-ghost use Rattle.row.specs.Widths.{row_length};
 ghost use Rattle.stored.specs.Points as spec;
-ghost use Rattle.sweep.specs.Laid.{Calm, Standing, Stepped, if_some, begin_of, step_of, is_passed, Ready, Swept, Reswept, Ran};
-ghost use Rattle.sweep.specs.Joined.{joined, Stood};
+ghost use Rattle.points.specs.Apart.{Calm};
+ghost use Rattle.sweep.specs.Laid.{Standing, if_some, begin_of, step_of, is_passed, Ready, Swept, Reswept, Ran};
+ghost use Rattle.sweep.specs.Joined.{joined, Stood, Moves};
 
 use places::Ids;
-use points::velocities::Velocities;
+use points::{Points, velocities};
 use records::{RowKind, layout};
+use row::Record;
+use vector::Vec3;
 
 // The phases of a main sweep beside its solve, where they are on: an update with the least strain of the head, a warm start with its
 // coefficient.
@@ -39,45 +41,44 @@ struct Row {
 // ---- one row: fetch, compute, alter
 
 impl Row {
-    fn update(self, least: Option<f32>, s: &mut [u8], v: &Velocities)
+    fn update(self, least: Option<f32>, s: &mut [u8], v: &[Vec3])
         requires { Stood self v.now s.old }
-        ensures { Stepped (if_some (spec.update v.now.count) least) v.now.count self.off self.len (joined v.now s.old) (joined v.now s.new) }
+        ensures { Moves (if_some (spec.update (length v.now)) least) self.off self.len s.old v.now s.new v.now }
     {
         if let Some(least) = least {
-            let held = points::positions(v.count, s, self.names);
+            let count = v.len();
+            let points = Points { frame: s, count };
+            let held = points.positions(self.names);
             let end = self.off + self.len;
             row::update_row(&mut s[self.off..end], held, least);
         }
     }
 
-    fn warm(self, coeff: Option<f32>, s: &mut [u8], v: &mut Velocities)
+    fn warm(self, coeff: Option<f32>, s: &mut [u8], v: &mut [Vec3])
         requires { Stood self v.old s.old }
-        ensures counted { v.new.count ≡ v.old.count }
-        ensures stepped { Stepped (if_some (spec.warm v.old.count) coeff) v.old.count self.off self.len (joined v.old s.old) (joined v.new s.new) }
+        ensures { Moves (if_some (spec.warm (length v.old)) coeff) self.off self.len s.old v.old s.new v.new }
     {
         if let Some(coeff) = coeff {
             let end = self.off + self.len;
             let loss = row::warm_row(&mut s[self.off..end], coeff);
-            v.take(self.names, loss);
+            velocities::take(v, self.names, loss);
         }
     }
 
-    fn solve(self, s: &mut [u8], v: &mut Velocities)
+    fn solve(self, s: &mut [u8], v: &mut [Vec3])
         requires { Stood self v.old s.old }
-        ensures counted { v.new.count ≡ v.old.count }
-        ensures stepped { Stepped (spec.solve v.old.count) v.old.count self.off self.len (joined v.old s.old) (joined v.new s.new) }
+        ensures { Moves (spec.solve (length v.old)) self.off self.len s.old v.old s.new v.new }
     {
-        let vel = v.of(self.names);
+        let vel = velocities::of(v, self.names);
         let end = self.off + self.len;
         let loss = row::solve_row(&mut s[self.off..end], vel);
-        v.take(self.names, loss);
+        velocities::take(v, self.names, loss);
     }
 
     // What goes before the solve.
-    fn begin(self, t: Turn, s: &mut [u8], v: &mut Velocities)
+    fn begin(self, t: Turn, s: &mut [u8], v: &mut [Vec3])
         requires { Stood self v.old s.old }
-        ensures counted { v.new.count ≡ v.old.count }
-        ensures stepped { Stepped (begin_of v.old.count t) v.old.count self.off self.len (joined v.old s.old) (joined v.new s.new) }
+        ensures { Moves (begin_of (length v.old) t) self.off self.len s.old v.old s.new v.new }
     {
         if let Turn::Main(p) = t {
             self.update(p.update, s, v);
@@ -87,27 +88,27 @@ impl Row {
 }
 
 // Whether a row is passed over.
-fn is_passed(t: Turn, b: &[u8]) -> bool
-    requires { row_length (le16 b.now 4) ≤ length b.now }
-    ensures { result ≡ is_passed t b.now }
+fn is_passed(t: Turn, b: Record) -> bool
+    ensures { result ≡ is_passed t b.entry.bytes.now }
 {
     match t {
         Turn::Main(_) => false,
-        Turn::Resweep => !row::is_strained(b),
+        Turn::Resweep => !b.is_strained(),
     }
 }
 
 // The row's names are read once, and what the phases put leaves them. The main sweep does as `solve_color_constraint` does it.
-fn step(t: Turn, off: usize, len: usize, s: &mut [u8], v: &mut Velocities)
-    requires { Standing v.old.count off len (joined v.old s.old) }
-    ensures counted { v.new.count ≡ v.old.count }
-    ensures stepped { Stepped (step_of v.old.count t) v.old.count off len (joined v.old s.old) (joined v.new s.new) }
+fn step(t: Turn, off: usize, len: usize, s: &mut [u8], v: &mut [Vec3])
+    requires { Standing (length v.old) off len (joined v.old s.old) }
+    ensures { Moves (step_of (length v.old) t) off len s.old v.old s.new v.new }
 {
-    let b = records::record_at(s, off);
+    let b = Record {
+        bytes: records::record_at(s, off),
+    };
     if is_passed(t, b) {
         return;
     }
-    let names = row::names_at(b);
+    let names = b.names();
     let row = Row { off, len, names };
     row.begin(t, s, v);
     row.solve(s, v);
@@ -118,22 +119,23 @@ fn step(t: Turn, off: usize, len: usize, s: &mut [u8], v: &mut Velocities)
 // The bytes of the row at off, as a part of the frame. A scalar row's length is known by its kind, through a branch: so the place of the
 // next row does not wait until the length is read.
 fn row_at(s: &[u8], off: usize) -> &[u8]
-    requires { ((off + 6 ≤ length s.now) × (off + record_length s.now off ≤ length s.now)) × (le16 s.now (off + 4) ≡ 3 → record_length s.now off ≡ 182) }
+    requires kind { off + 6 ≤ length s.now }
+    requires whole { off + record_length s.now off ≤ length s.now }
+    requires scalar { le16 s.now (off + 4) ≡ 3 → record_length s.now off ≡ 182 }
     ensures { (result.now ≡ record_at s.now off) × (length result.now ≡ record_length s.now off) }
 {
-    if little_endian::get_u16(s, off + layout::KIND_AT) == 3 {
-        let e = off + layout::SCALAR_END;
-        return &s[off..e];
+    match RowKind::of(&s[off..]) {
+        RowKind::Scalar => &s[off..off + layout::SCALAR_END],
+        RowKind::Corotational | RowKind::NeoHookean => records::record_at(s, off),
     }
-    records::record_at(s, off)
 }
 
-fn sweep(t: Turn, r: usize, s: &mut [u8], v: &mut Velocities)
-    requires { Ready v.old.count r (joined v.old s.old) }
-    ensures counted { v.new.count ≡ v.old.count }
-    ensures swept { Swept t v.old.count r (joined v.old s.old) (joined v.new s.new) }
+// The rows are walked by hand: while they are walked the frame is altered, and so no iterator may hold it.
+fn sweep(t: Turn, r: usize, s: &mut [u8], v: &mut [Vec3])
+    requires { Ready (length v.old) r (joined v.old s.old) }
+    ensures { Swept t (length v.old) r (joined v.old s.old) (joined v.new s.new) }
 {
-    let mut off = layout::HEAD_END + layout::POINT_END * v.count;
+    let mut off = layout::HEAD_END + layout::POINT_END * v.len();
     for _row in 0..r {
         let len = row_at(s, off).len();
         step(t, off, len, s, v);
@@ -141,23 +143,31 @@ fn sweep(t: Turn, r: usize, s: &mut [u8], v: &mut Velocities)
     }
 }
 
-fn resweeps(k: u16, r: usize, s: &mut [u8], v: &mut Velocities)
-    requires { Ready v.old.count r (joined v.old s.old) }
-    ensures counted { v.new.count ≡ v.old.count }
-    ensures swept { Reswept k v.old.count r (joined v.old s.old) (joined v.new s.new) }
+fn resweeps(k: u16, r: usize, s: &mut [u8], v: &mut [Vec3])
+    requires { Ready (length v.old) r (joined v.old s.old) }
+    ensures { Reswept k (length v.old) r (joined v.old s.old) (joined v.new s.new) }
 {
     for _turn in 0..k {
         sweep(Turn::Resweep, r, s, v);
     }
 }
 
-// The main sweep, and then k resweeps, of n points and r rows.
+// The main sweep, and then k resweeps, of as many points as v has. Before the sweeps v holds anything.
+fn sweep_apart(p: Phases, k: u16, r: usize, s: &mut [u8], v: &mut [Vec3])
+    requires { Ready (length v.old) r s.old × Calm (length v.old) s.old }
+    ensures { Ran p k (length v.old) r s.old s.new }
+{
+    velocities::gather(s, v);
+    sweep(Turn::Main(p), r, s, v);
+    resweeps(k, r, s, v);
+    velocities::scatter(v, s);
+}
+
+// The same of n points. The velocities are on the stack: a run is called from C, with fixed memory and without an allocator.
 pub fn sweep_all(p: Phases, k: u16, n: usize, r: usize, s: &mut [u8])
     requires { Ready n r s.old × Calm n s.old }
     ensures { Ran p k n r s.old s.new }
 {
-    let mut v = Velocities::gather(n, s);
-    sweep(Turn::Main(p), r, s, &mut v);
-    resweeps(k, r, s, &mut v);
-    v.scatter(s);
+    let mut all = [Vec3::zero(); 4096];
+    sweep_apart(p, k, r, s, &mut all[..n]);
 }

@@ -1,5 +1,5 @@
 -- `sweep::sweep` meets its contract. Assumes nothing.
-use Rattle.std.proofs.Common.{refl, sym, subst, ◌∙◌, ℕ, arith}
+use Rattle.std.proofs.Common.{sym, subst, ℕ, length, arith}
 use Rattle.points.specs.Apart.{moved}
 use Rattle.sweep.specs.Joined.{joined}
 use Rattle.sweep.specs.Laid.{Swept}
@@ -8,31 +8,27 @@ use Rattle.sweep.proofs.Sweeps.{going_begins, going_stands, going_again, going_e
 use Rattle.sweep.proofs.sweep.Goals as goal
 
 pub loop-row-init : goal.loop-row-init
-loop-row-init c = record { going = going_begins _ _ _ _; counted = refl }
+loop-row-init c = going_begins _ _ _ _
 
 pub row_at-len-requires : goal.row_at-len-requires
 row_at-len-requires c =
     let i = c.loop-row.invariant in
-    let room = turn_room _ _ _ _ _ _ _ _ i.going c.requires (omega arith) in
-    let long = turn_long _ _ _ _ _ _ _ _ i.going c.requires (omega arith) in
-    ((omega (arith, room, long), room), turn_scalar _ _ _ _ _ _ _ _ i.going c.requires (omega arith))
+    let room = turn_room _ _ _ _ _ _ _ _ i c.requires (omega arith) in
+    let long = turn_long _ _ _ _ _ _ _ _ i c.requires (omega arith) in
+    record { kind = omega (arith, room, long); whole = room; scalar = turn_scalar _ _ _ _ _ _ _ _ i c.requires (omega arith) }
 
 pub step-requires : goal.step-requires
 step-requires c =
     let i = c.loop-row.invariant in
-    standing_at i.counted _ _ (going_stands _ _ _ _ _ _ _ i.going c.requires (omega arith) _ (turn_says _ _ _ _ _ _ _ _ i.going c.requires (omega arith) _ c.row_at-len.ensures.1))
+    standing_at c.loop-row.auto.v _ _ (going_stands _ _ _ _ _ _ _ i c.requires (omega arith) _ (turn_says _ _ _ _ _ _ _ _ i c.requires (omega arith) _ c.row_at-len.ensures.1))
 
 pub loop-row-preserved : goal.loop-row-preserved
 loop-row-preserved c =
     let i = c.loop-row.invariant in
-    record {
-      going = going_again _ _ _ _ _ _ _ i.going (omega arith) _ _ (turn_says _ _ _ _ _ _ _ _ i.going c.requires (omega arith) _ c.row_at-len.ensures.1)
-          (stepped_at i.counted c.step.ensures.counted _ _ _ _ _ c.step.ensures.stepped);
-      counted = c.step.ensures.counted ∙ i.counted;
-    }
+    going_again _ _ _ _ _ _ _ i (omega arith) _ _ (turn_says _ _ _ _ _ _ _ _ i c.requires (omega arith) _ c.row_at-len.ensures.1)
+    (stepped_at c.loop-row.auto.v c.step.auto.v _ _ _ _ _ c.step.ensures)
 
-pub returns-clause-swept : goal.returns-clause-swept
-returns-clause-swept c =
-    let i = c.loop-row.invariant in
-    subst (λ (k : ℕ). Swept c.args.t c.args.v.now.count c.args.r (joined c.args.v.now c.args.s.now) (moved k c.loop-row.v.all c.loop-row.s)) (sym i.counted)
-    (going_ends _ _ _ _ _ _ _ i.going (omega arith))
+pub returns : goal.returns
+returns c =
+    subst (λ (k : ℕ). Swept c.args.t (length c.args.v.now) c.args.r (joined c.args.v.now c.args.s.now) (moved k c.loop-row.v c.loop-row.s)) (sym c.loop-row.auto.v)
+    (going_ends _ _ _ _ _ _ _ c.loop-row.invariant (omega arith))

@@ -14,10 +14,10 @@ slice_bounds-solve_row-end c = omega (arith, (room_apart _ _ c.requires.0).end)
 pub solve_row-loss-requires : goal.solve_row-loss-requires
 solve_row-loss-requires c = lent_whole (stands_apart _ _ c.requires.0 _ refl)
 
-pub returns-clause-stepped : goal.returns-clause-stepped
-returns-clause-stepped c =
+pub returns : goal.returns
+returns c =
     let w = stands_apart _ _ c.requires.0 _ refl in
     let e = c.solve_row-loss.ensures in
-    recounted c.take.ensures.counted _ _ _
-    (solved_apart _ _ c.requires.0 _ c.requires.1 c.args.v.now.fit _ (omega (arith, (room_apart _ _ c.requires.0).points, lent_long w _ c.solve_row-loss.auto.b)) _ _ c.take.ensures.lost _ c.of-vel.ensures
+    recounted c.take.auto.v _ _ _
+    (solved_apart _ _ c.requires.0 _ c.requires.1 (omega arith) c.take.ensures.fit _ (omega (arith, (room_apart _ _ c.requires.0).points, lent_long w _ c.solve_row-loss.auto.b)) _ _ c.take.ensures.lost _ c.of-vel.ensures
     (put_back w (solve_row _) e.anew) (e.loss ∙ ap (solve_loss _) (lent_is w)) (written_back w (solve_row _) e.anew e.written))

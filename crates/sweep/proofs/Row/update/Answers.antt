@@ -6,8 +6,8 @@ use Rattle.sweep.proofs.Steps.{if_on}
 use Rattle.sweep.proofs.Apart.{room_apart, stands_apart, updated_apart}
 use Rattle.sweep.proofs.Row.update.Goals as goal
 
-pub positions-held-requires : goal.positions-held-requires
-positions-held-requires c = (omega (arith, (room_apart _ _ c.requires.0).few), omega (arith, (room_apart _ _ c.requires.0).points))
+pub invariant_of-points : goal.invariant_of-points
+invariant_of-points c = let r = room_apart _ _ c.requires.0 in record { few = r.few; room = r.points }
 
 pub overflow_add-end : goal.overflow_add-end
 overflow_add-end c = omega (arith, (room_apart _ _ c.requires.0).end)

@@ -15,11 +15,11 @@ slice_bounds-warm_row-end c = omega (arith, (room_apart _ _ c.requires.0).end)
 pub warm_row-loss-requires : goal.warm_row-loss-requires
 warm_row-loss-requires c = lent_whole (stands_apart _ _ c.requires.0 _ refl)
 
-pub returns-in-Some-clause-stepped : goal.returns-in-Some-clause-stepped
-returns-in-Some-clause-stepped c =
+pub returns-in-Some : goal.returns-in-Some
+returns-in-Some c =
     let w = stands_apart _ _ c.requires.0 _ refl in
     let e = c.warm_row-loss.ensures in
     if_on _ _ _ _ c.in-Some.is
-    (recounted c.take.ensures.counted _ _ _
-    (warmed_apart _ _ c.requires.0 _ c.requires.1 c.args.v.now.fit _ (omega (arith, (room_apart _ _ c.requires.0).points, lent_long w _ c.warm_row-loss.auto.b)) _ _ c.take.ensures.lost _
+    (recounted c.take.auto.v _ _ _
+    (warmed_apart _ _ c.requires.0 _ c.requires.1 (omega arith) c.take.ensures.fit _ (omega (arith, (room_apart _ _ c.requires.0).points, lent_long w _ c.warm_row-loss.auto.b)) _ _ c.take.ensures.lost _
     (put_back w (warm_row _) e.anew) (e.loss ∙ ap (warm_loss _) (lent_is w)) (written_back w (warm_row _) e.anew e.written)))

@@ -1,4 +1,4 @@
--- `row::names_at` meets its contract, by the kind. Assumes nothing.
+-- `row::Record::names` meets its contract, by the kind. Assumes nothing.
 use Rattle.std.proofs.Common.{◌≡◌, ◌∙◌, ◌⊎◌, inl, inr, ℕ, List, arith}
 use Rattle.little_endian.specs.Bytes.{le16}
 use Rattle.records.specs.Kinds.{row_kind}
@@ -7,16 +7,16 @@ use Rattle.records.specs.declared.kinds.RowKind.TheVariants.{Scalar, Corotationa
 use Rattle.floats.specs.Fields.{ids_at}
 use Rattle.stored.specs.Phases.{counted_ids, names_at}
 use Rattle.row.proofs.ByKind.{long_row, names_of_kind}
-use Rattle.row.proofs.names_at.Goals as goal
+use Rattle.row.proofs.Record.names.Goals as goal
 
 pub ids_at-i-requires : goal.ids_at-i-requires
-ids_at-i-requires c = omega (arith, long_row _ _ c.requires)
+ids_at-i-requires c = omega (arith, long_row _ _ c.args.self.wide)
 
 pub of-requires : goal.of-requires
-of-requires c = omega (arith, long_row _ _ c.requires)
+of-requires c = omega (arith, long_row _ _ c.args.self.wide)
 
 pub get_u16-requires : goal.get_u16-requires
-get_u16-requires c = omega (arith, long_row _ _ c.requires)
+get_u16-requires c = omega (arith, long_row _ _ c.args.self.wide)
 
 pub returns-in-Scalar : goal.returns-in-Scalar
 returns-in-Scalar c = c.counted_ids.ensures ∙ (λ j. counted_ids (c.get_u16.ensures j) (c.ids_at-i.ensures j)) ∙ names_of_kind _ c.of.ensures Scalar c.in-Scalar.is

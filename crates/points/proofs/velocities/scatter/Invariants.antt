@@ -1,6 +1,6 @@
 use Rattle.std.proofs.Common.{◌≡◌}
 use Rattle.points.specs.Apart.{moved}
-use Rattle.points.proofs.velocities.Velocities.scatter.Given as goal
+use Rattle.points.proofs.velocities.scatter.Given as goal
 
 abbrev pub invariant-loop-i : goal.invariant-loop-i
-invariant-loop-i l = l.s ≡ moved l.i l.self.all l.initial.s
+invariant-loop-i l = l.s ≡ moved l.i l.v l.initial.s
