@@ -57,7 +57,8 @@ pub(crate) fn rotation_at<const P: usize, const Q: usize>(a: Rows) -> Option<Rot
     rotation_for(a[P][Q], a[Q][Q] - a[P][P])
 }
 
-// A J, row after row. This and the next differ in the order of two indices: a flag for it would be no plainer.
+// A J, row after row. This and the next differ in the order of two indices, and go by index both, so that they read alike: a flag for it
+// would be no plainer.
 #[tactic(auto, using(loops::specs::Loops::counted), unfolding(crate::specs::Eigen::rotate_columns))]
 fn rotate_columns<const P: usize, const Q: usize>(m: Rows, g: Rotation) -> Rows
     requires { (P < 3) × (Q < 3) }
