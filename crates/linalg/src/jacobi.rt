@@ -57,20 +57,20 @@ pub(crate) fn rotation_at<const P: usize, const Q: usize>(a: Rows) -> Option<Rot
     rotation_for(a[P][Q], a[Q][Q] - a[P][P])
 }
 
-// A J, row after row. This and the next differ in the order of two indices: a flag for it would be no plainer.
+// A J, row after row.
 #[tactic(auto, using(loops::specs::Loops::counted), unfolding(crate::specs::Eigen::rotate_columns))]
 fn rotate_columns<const P: usize, const Q: usize>(m: Rows, g: Rotation) -> Rows
     requires { (P < 3) × (Q < 3) }
     ensures { result ≡ spec.rotate_columns P Q g.c g.s m }
 {
     let mut a = m;
-    for k in 0usize..3 {
-        (a[k][P], a[k][Q]) = g.turned(a[k][P], a[k][Q]);
+    for row in &mut a {
+        (row[P], row[Q]) = g.turned(row[P], row[Q]);
     }
     a
 }
 
-// Jᵀ A, column after column.
+// Jᵀ A, column after column: by index, as a column is no slice. A flag that makes one function of both would be no plainer.
 #[tactic(auto, using(loops::specs::Loops::counted), unfolding(crate::specs::Eigen::rotate_rows))]
 fn rotate_rows<const P: usize, const Q: usize>(m: Rows, g: Rotation) -> Rows
     requires { (P < 3) × (Q < 3) }
