@@ -1,15 +1,17 @@
--- The number that the library prints is `decimal` of it, and one text behind another. Assumes nothing.
-use mathlib.Core.Path.{◌≡◌, refl, sym, ap, ◌∙◌}
-use mathlib.Core.List.{List, ◌++◌, append_assoc}
+-- The number that the library prints is `decimal` of it, and a refusal that prints itself is `refusal` of its number and place. Assumes nothing.
+use mathlib.Core.Path.{◌≡◌, refl, sym, ap}
+use mathlib.Core.List.{List, [], ◌∷◌, ◌++◌, append_assoc}
 use Prim.Native.Nat.{ℕ, ◌^◌, ◌<◌}
 use native.Mathlib.Omega.{arith}
 use borrow.Author.Tests.{lt-ltb, le-ltb}
-use Rattle.std.proofs.Common.{None, Some}
-use Rattle.std.specs.declared.option.Option.{Option}
 use Rattle.std.specs.Fmt as fmt
 use Rattle.std.proofs.lemmas.Fmt.{AppendsLastDigit, decimal_from_appends, length-decimal-le}
-use Rattle.std.specs.Io.KnownBytes.{Appends}
-use Rattle.formrun.specs.Output.{decimal_in, decimal}
+use Rattle.records.specs.declared.Refusal.{Refusal}
+use Rattle.records.specs.declared.Refusal.TheVariants.{NotWhole, NotDue, TooMany, BadCode, NotFinite, Disordered, ColourFalls, ExtraBytes, Clash}
+use Rattle.records.specs.declared.Refused.{Refused}
+use Rattle.records.specs.Answers.{number_of}
+use Rattle.records.specs.Text.{refused_text}
+use Rattle.formrun.specs.Output.{decimal_in, decimal, refusal, refused_word, at_word}
 
 appends : AppendsLastDigit decimal_in
 unfolding decimal_in
@@ -21,9 +23,20 @@ printed n small =
     let fits : n < 10 ^ 20 = omega (arith, small) in
     sym (decimal_from_appends decimal_in appends 20 n small (length-decimal-le 20 n (omega arith) fits small))
 
--- one text behind another
-pub appended : (a b c : Option (List ℕ)) (t u : List ℕ) → Appends a b t → Appends b c u → Appends a c (t ++ u)
-appended None b c t u h k = tt
-appended (Some x) None c t u h k = elim h [ ]
-appended (Some x) (Some y) None t u h k = elim k [ ]
-appended (Some x) (Some y) (Some z) t u h k = k ∙ ap (λ (l : List ℕ). l ++ u) h ∙ append_assoc x t u
+-- a refusal by its own Display, and a newline
+number_small : (r : Refusal) → number_of r < 10
+number_small NotWhole = omega arith
+number_small NotDue = omega arith
+number_small TooMany = omega arith
+number_small BadCode = omega arith
+number_small NotFinite = omega arith
+number_small Disordered = omega arith
+number_small ColourFalls = omega arith
+number_small ExtraBytes = omega arith
+number_small Clash = omega arith
+
+pub line_of : (r : Refused) → r.place < 2 ^ 64 → refused_text r ++ (10 ∷ []) ≡ refusal (number_of r.why) r.place
+unfolding refusal
+line_of r small =
+    rw (← printed (number_of r.why) (omega (arith, number_small r.why)), ← printed r.place small)
+    (ap (λ (l : List ℕ). refused_word ++ l) (append_assoc (fmt.decimal (number_of r.why)) (at_word ++ fmt.decimal r.place) (10 ∷ [])))

@@ -9,7 +9,7 @@
 
 ghost use Rattle.std.specs.Prelude.{◌≡◌, OnOk, IfSome};
 ghost use Rattle.std.specs.Io.KnownBytes.{Appends};
-ghost use Rattle.formrun.specs.Output.{output_of, refusal};
+ghost use Rattle.formrun.specs.Output.{output_of};
 
 use std::alloc::Global;
 use std::io;
@@ -18,15 +18,7 @@ use std::io::{Read, Write};
 // A frame has at most so many bytes: one more shows that the input is too long.
 const MOST: usize = 65536;
 
-// Writes `refused NUMBER at PLACE`.
-fn refuse<W: Write>(output: &mut W, number: u64, place: u64) -> io::Result<()>
-    ensures { OnOk result (Appends (W.contents output.old) (W.contents output.new) (refusal number place)) }
-{
-    output.write_all(b"refused ")?;
-    writeln!(output, "{number} at {place}")
-}
-
-// Runs the frame, and writes it or its refusal.
+// Runs the frame, and writes it or the line of its refusal.
 fn answer<W: Write>(frame: &mut [u8], output: &mut W) -> io::Result<()>
     ensures { OnOk result (Appends (W.contents output.old) (W.contents output.new) (output_of frame.old)) }
 {
@@ -35,10 +27,7 @@ fn answer<W: Write>(frame: &mut [u8], output: &mut W) -> io::Result<()>
     }
     match run::run(frame) {
         Ok(()) => output.write_all(frame),
-        Err(refused) => {
-            let number = u64::from(refused.why.number());
-            refuse(output, number, refused.place as u64)
-        }
+        Err(refused) => writeln!(output, "{refused}"),
     }
 }
 

@@ -1,5 +1,6 @@
 -- By its three returns. Assumes nothing.
-use Rattle.std.proofs.Common.{arith}
+use Rattle.std.proofs.Common.{arith, rules, ◌<◌, ◌^◌}
+use Rattle.formrun.proofs.Printed.{line_of}
 use Rattle.formrun.proofs.Returns.{longer, accepted, refused}
 use Rattle.formrun.proofs.answer.Goals as goal
 
@@ -16,4 +17,6 @@ pub returns-in-Err : goal.returns-in-Err
 returns-in-Err g c =
     let s = c.args.frame.now in
     let q = c.run in
-    rw (← refused s q.result (omega (arith, c.if-frame-gt-MOST.false)) q.ensures.0 c.in-Err.refused c.in-Err.is, ← c.number.ensures, ← c.from-number.ensures) c.refuse.ensures
+    let r = c.in-Err.refused in
+    let small : r.place < 2 ^ 64 = search rules in
+    rw (← refused s q.result (omega (arith, c.if-frame-gt-MOST.false)) q.ensures.0 r c.in-Err.is, ← line_of r small) c.writeln.ensures.bytes
