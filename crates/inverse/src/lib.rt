@@ -41,7 +41,7 @@ fn pivot_row(m: &[f32; 36], j: usize) -> usize
     best
 }
 
-// By index: over `chunks_exact_mut` the proof was begun, and no invariant found that joins the columns lent so far with the rest.
+// By index, since an entry's place is made of two: over the columns as slices, `swap` would still stand in a loop.
 #[tactic(auto, using(loops::specs::Loops::counted, crate::specs::Pivot::swap_all))]
 fn swap_rows(m: &mut [f32; 36], p: usize, j: usize)
     requires { (length m.old ≡ 36) × (p < 6) × (j < 6) }
