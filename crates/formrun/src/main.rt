@@ -1,10 +1,11 @@
-// formrun: reads a frame of at most 65,536 bytes from standard input and writes the frame after the run; a refused frame gives one line, longer input another.
+// formrun: reads a frame of at most 65,536 bytes from standard input and writes the frame after the run; a refused frame gives one line,
+// longer input another.
 //
-// Proved: where it is known which bytes a reader gives and a writer holds, `serve` reads to the end, or as far as decides, and has written `output_of` of what
-// was there, unless a read, a write or an allocation fails. Not covered: which bytes the C library's `read` puts into a buffer and its `write` takes out of one:
-// of standard input and output it is not known.
-// Where a read, a write or an allocation fails, a line on standard error says so, and the status is 1; after a read or an allocation that failed nothing is
-// written.
+// Proved: where it is known which bytes a reader gives and a writer holds, `serve` reads to the end, or as far as decides, and has written
+// `output_of` of what was there, unless a read, a write or an allocation fails. Not covered: which bytes the C library's `read` puts into a
+// buffer and its `write` takes out of one: of standard input and output it is not known.
+// Where a read, a write or an allocation fails, a line on standard error says so, and the status is 1; after a read or an allocation that
+// failed nothing is written.
 #![tactic(auto)]
 
 ghost use Rattle.std.specs.Prelude.{◌≡◌, OnOk, IfSome};
