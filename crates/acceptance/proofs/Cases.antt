@@ -1,13 +1,6 @@
 -- The numbers 3 to 7 in the words of the table: the first test of a record's fields that fails, and the fault that it finds. Assumes nothing.
-use Prim.Native.Nat.{ℕ, suc, ◌+◌, ◌≤◌, ◌<◌}
-use mathlib.Core.Path.{◌≡◌, sym, subst}
-use mathlib.Core.Bool.{true, cond}
-use mathlib.Core.Logic.{◌↔◌}
-use mathlib.Core.List.{List}
-use native.Mathlib.Omega.{arith}
-use native.Mathlib.Decide.{dec_lt}
-use lib.ListN.{length}
-use lib.Dec.{eqb}
+use Rattle.std.proofs.Common.{ℕ, suc, ◌+◌, ◌≤◌, ◌<◌, ◌≡◌, sym, subst, true, cond, ◌↔◌, List, arith, length, eqb}
+use Rattle.std.proofs.Math.Decide.{dec_lt}
 use Rattle.little_endian.specs.Bytes.{le16, le32}
 use Rattle.records.specs.declared.Due.{Due}
 use Rattle.records.specs.Answers.{refused, first_of}

@@ -1,12 +1,7 @@
 -- The floats of a good row are finite, a scalar row's two bounds apart, which are no NaN. Assumes nothing.
-use Prim.Native.Nat.{ℕ, zero, suc, ◌+◌, ◌*◌, ◌<◌}
-use mathlib.Core.Path.{◌≡◌, ap, ◌∙◌, subst}
-use mathlib.Core.Bool.{true, false}
-use mathlib.Core.List.{List}
-use native.Mathlib.Omega.{arith}
-use native.Mathlib.Nat.{add-zero}
-use lib.Ieee.{is_nan}
-use borrow.Author.Tests.{not-false}
+use Rattle.std.proofs.Common.{ℕ, zero, suc, ◌+◌, ◌*◌, ◌<◌, ◌≡◌, ap, ◌∙◌, subst, true, false, List, arith, add-zero}
+use Rattle.std.specs.Float.Ieee.{is_nan}
+use Rattle.std.proofs.lemmas.Bool.{not-false}
 use Rattle.little_endian.specs.Bytes.{le16, f32_at, is_finite}
 use Rattle.records.specs.Answers.{Passed}
 use Rattle.records.specs.Fields.{finite, bound, run, scalar_codes, scalar_floats, elastic_codes, scalar_fields, corotational_fields, neo_hookean_fields, fields}

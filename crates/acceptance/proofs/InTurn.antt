@@ -1,14 +1,8 @@
 -- The tests of a record's fields stand in turn, and those that fail are the record's faults. Assumes nothing.
-use Prim.Native.Nat.{ℕ, ◌+◌, ◌*◌, ◌<◌}
-use mathlib.Core.Path.{◌≡◌, refl, sym, ap, subst}
-use mathlib.Core.Bool.{Bool, true, false, not, cond}
-use mathlib.Core.Logic.{inl, inr}
-use mathlib.Core.List.{List}
-use native.Mathlib.Omega.{arith}
-use lib.Dec.{eqb}
-use lib.ListN.{take, drop}
-use lib.Ieee.{binary32, of_bits, lt, is_nan}
-use borrow.Author.Tests.{lt-ltb, ltb-true, not-true}
+use Rattle.std.proofs.Common.{ℕ, ◌+◌, ◌*◌, ◌<◌, ◌≡◌, refl, sym, ap, subst, Bool, true, false, not, cond, inl, inr, List, arith, eqb, take}
+use Rattle.std.proofs.Common.{drop, lt-ltb, ltb-true}
+use Rattle.std.specs.Float.Ieee.{binary32, of_bits, lt, is_nan}
+use Rattle.std.proofs.lemmas.Bool.{not-true}
 use Rattle.little_endian.specs.Bytes.{le16, le32, f32_at, is_finite}
 use Rattle.records.specs.declared.Due.{Due}
 use Rattle.records.specs.Answers.{Test}

@@ -1,12 +1,7 @@
 -- Records that pass their tests are good records, one after another; and such records pass. One induction each way serves points and rows. Records that are as long as they say are found again where they are laid one after another.
 -- Assumes nothing.
-use Prim.Native.Nat.{ℕ, zero, suc, ◌+◌, ◌≤◌}
-use mathlib.Core.Path.{◌≡◌, refl, sym, ap, ◌∙◌, subst}
-use mathlib.Core.List.{List, [], ◌∷◌, ◌++◌, append_assoc}
-use native.Mathlib.Omega.{arith}
-use native.Mathlib.Nat.{add-zero}
-use lib.ListN.{length, drop, length-append, take-append-drop}
-use lib.Seq.{drop-drop}
+use Rattle.std.proofs.Common.{ℕ, zero, suc, ◌+◌, ◌≤◌, ◌≡◌, refl, sym, ap, ◌∙◌, subst, List, [], ◌∷◌, ◌++◌, append_assoc, arith, add-zero}
+use Rattle.std.proofs.Common.{length, drop, length-append, take-append-drop, drop-drop}
 use Rattle.little_endian.specs.Bytes.{le16, le32, part}
 use Rattle.little_endian.proofs.Parts.{le16_part, le32_part, part_middle, le16_middle, le32_middle}
 use Rattle.records.specs.declared.Due.{Due}

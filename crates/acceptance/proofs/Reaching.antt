@@ -1,10 +1,6 @@
 -- How far check gets: to the record that it refuses, or past them all. Assumes nothing.
-use Prim.Native.Nat.{ℕ, zero, suc, ◌+◌, ◌≤◌, ◌<◌, suc-le-suc}
-use mathlib.Core.Path.{◌≡◌, refl, ◌∙◌}
-use mathlib.Core.Logic.{◌⊎◌, inl, inr}
-use mathlib.Core.List.{List, []}
-use native.Mathlib.Omega.{arith}
-use native.Mathlib.Nat.{not-suc-le-zero, le_of_suc-le-suc}
+use Rattle.std.proofs.Common.{ℕ, zero, suc, ◌+◌, ◌≤◌, ◌<◌, suc-le-suc, ◌≡◌, refl, ◌∙◌, ◌⊎◌, inl, inr, List, [], arith, not-suc-le-zero}
+use Rattle.std.proofs.Common.{le_of_suc-le-suc}
 use Rattle.little_endian.specs.Bytes.{le16}
 use Rattle.records.specs.declared.Due.{Due}
 use Rattle.records.specs.declared.Due.TheVariants.{Head, Point, Row}

@@ -1,6 +1,6 @@
 -- When each number is given. Definitions only. Assumes nothing.
-use Rattle.std.specs.Prelude.{ℕ, zero, suc, ◌+◌, ◌≤◌, ◌<◌, ◌≡◌, true, false, ◌⊎◌, ◌≢◌, length}
-use mathlib.Core.List.{List, ◌∷◌, ◌++◌, Memᴰ}
+use Rattle.std.specs.Prelude.{ℕ, zero, suc, ◌+◌, ◌≤◌, ◌<◌, ◌≡◌, true, false, ◌⊎◌, ◌≢◌, length, List, ◌∷◌, ◌++◌}
+use mathlib.Core.List.{Memᴰ}
 use Rattle.little_endian.specs.Bytes.{le16, le32}
 use Rattle.records.specs.declared.Due.{Due}
 use Rattle.records.specs.declared.Due.TheVariants.{Head, Point, Row}

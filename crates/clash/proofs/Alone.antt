@@ -1,9 +1,5 @@
 -- A row with no row before it clashes with none, whatever it names. Assumes nothing.
-use Prim.Native.Nat.{ℕ}
-use mathlib.Core.Path.{◌≡◌, refl, ap, ◌∙◌}
-use mathlib.Core.Bool.{Bool, true, false, not, ◌&&◌, ◌||◌}
-use mathlib.Core.List.{List, [], ◌∷◌}
-use lib.Dec.{ltb, eqb}
+use Rattle.std.proofs.Common.{ℕ, ◌≡◌, refl, ap, ◌∙◌, Bool, true, false, not, ◌&&◌, ◌||◌, List, [], ◌∷◌, ltb, eqb}
 use Rattle.clash.specs.Clash.{Key, overflow, any_of, named_by, clashes}
 
 -- the row of colour 0 that names point 0, of a frame with one point

@@ -1,16 +1,10 @@
 -- The mark of a point is one more than the colour of the last row that named it. As colours never fall, a row clashes exactly where a point that it
 -- names has the mark of its own colour. Assumes nothing.
-use Prim.Native.Nat.{ℕ, ◌+◌, ◌≤◌, ◌<◌}
-use mathlib.Core.Path.{◌≡◌, refl, sym, ap, ◌∙◌}
-use mathlib.Core.Bool.{Bool, true, false, cond, not, ◌&&◌, ◌||◌}
-use mathlib.Core.List.{List, [], ◌∷◌}
-use native.Mathlib.Omega.{arith}
-use native.Mathlib.Decide.{ℕ_discrete}
-use lib.ListN.{length, get_or, set, take, replicate, length-replicate, length-set, length-take, get_or-replicate}
-use lib.Seq.{get_or-set_same, get_or-set_other, get_or-take}
-use lib.Dec.{ltb, eqb}
-use borrow.Author.Tests.{eq-eqb, ne_eqb, lt-ltb, ltb-true}
-use Rattle.std.specs.Prelude.{Option, Some, None}
+use Rattle.std.proofs.Common.{ℕ, ◌+◌, ◌≤◌, ◌<◌, ◌≡◌, refl, sym, ap, ◌∙◌, Bool, true, false, cond, not, ◌&&◌, ◌||◌, List, [], ◌∷◌, arith}
+use Rattle.std.proofs.Common.{length, get_or, set, take, replicate, length-set, length-take, get_or-set_same, get_or-set_other, get_or-take}
+use Rattle.std.proofs.Common.{ltb, eqb, eq-eqb, ne_eqb, lt-ltb, ltb-true, Option, Some, None}
+use Rattle.std.proofs.Math.Decide.{ℕ_discrete}
+use Rattle.std.proofs.lemmas.List.{length-replicate, get_or-replicate}
 use Rattle.little_endian.specs.Bytes.{le16}
 use Rattle.clash.specs.Clash.{Key, key_of, any_of, named_by, clashes}
 use Rattle.clash.specs.Marks.{names_of, named, marked_at, clashing, mark_with, mark_all, mark_row}

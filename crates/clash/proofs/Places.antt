@@ -1,14 +1,6 @@
 -- A row's names in four places say what its key says. Assumes nothing.
-use Prim.Native.Nat.{ℕ, zero, suc}
-use mathlib.Core.Path.{◌≡◌, refl, sym, ap}
-use mathlib.Core.Bool.{Bool, ◌||◌}
-use mathlib.Core.List.{List, [], ◌∷◌}
-use native.Mathlib.Omega.{arith}
-use lib.ListN.{take}
-use lib.Seq.{take-nil}
-use lib.Dec.{ltb}
-use borrow.Author.Tests.{lt-ltb}
-use Rattle.std.specs.Prelude.{Option}
+use Rattle.std.proofs.Common.{ℕ, zero, suc, ◌≡◌, refl, sym, ap, Bool, ◌||◌, List, [], ◌∷◌, arith, take, ltb, lt-ltb, Option}
+use Rattle.std.proofs.Math.Seq.{take-nil}
 use Rattle.little_endian.specs.Bytes.{le16, le32}
 use Rattle.clash.specs.Clash.{count_of, key_of, any_of}
 use Rattle.clash.specs.Marks.{placed, names_of, named}

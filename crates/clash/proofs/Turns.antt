@@ -1,12 +1,7 @@
 -- The loop of the clash test, one row a turn. Assumes nothing.
-use Prim.Native.Nat.{ℕ, suc, ◌+◌, ◌-◌, ◌≤◌, ◌<◌}
-use mathlib.Core.Path.{◌≡◌, refl, sym, ap, ◌∙◌, subst}
-use mathlib.Core.Bool.{Bool}
-use mathlib.Core.List.{List, [], ◌∷◌}
-use native.Mathlib.Omega.{arith}
-use native.Mathlib.Nat.{sub-zero}
-use lib.ListN.{length, take, replicate}
-use Rattle.std.specs.Prelude.{Result, Ok, Err}
+use Rattle.std.proofs.Common.{ℕ, suc, ◌+◌, ◌-◌, ◌≤◌, ◌<◌, ◌≡◌, refl, sym, ap, ◌∙◌, subst, Bool, List, [], ◌∷◌, arith, length, take}
+use Rattle.std.proofs.Common.{replicate, Result, Ok, Err}
+use Rattle.std.proofs.Math.Nat.{sub-zero}
 use Rattle.little_endian.specs.Bytes.{le16, le32}
 use Rattle.little_endian.proofs.Parts.{Bytes, le16_small, le16_part}
 use Rattle.records.specs.declared.Due.TheVariants.{Row}

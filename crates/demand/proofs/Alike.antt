@@ -1,10 +1,7 @@
 -- DEMAND 3: an accepted frame and a relisting of it are run alike. Assumes nothing.
-use Prim.Native.Nat.{ℕ, ◌<◌}
-use mathlib.Core.Path.{◌≡◌, refl, sym, ap, ◌∙◌}
-use mathlib.Core.List.{List, []}
-use native.Mathlib.Omega.{arith}
-use lib.Ieee.{binary32, of_bits}
-use lib.ListN.{length, get_elem?}
+use Rattle.std.proofs.Common.{ℕ, ◌<◌, ◌≡◌, refl, sym, ap, ◌∙◌, List, [], arith, length}
+use Rattle.std.specs.Float.Ieee.{binary32, of_bits}
+use Rattle.std.proofs.Math.ListN.{get_elem?}
 use Rattle.little_endian.specs.Bytes.{le32}
 use Rattle.relisting.specs.Build.{points_equal}
 use Rattle.relisting.specs.Steps.{run}

@@ -1,11 +1,7 @@
 -- DEMAND 3 IS NEITHER EMPTY NOR TOO WEAK: a proper relisting, with what its run leaves; and a frame for which the claim would be false if overflow rows could move. Assumes nothing.
-use Prim.Native.Nat.{ℕ, zero, suc, ◌<◌}
-use mathlib.Core.Path.{◌≡◌, refl, sym, ap, ◌∙◌}
-use mathlib.Core.List.{List, [], ◌∷◌, ◌++◌}
-use native.Mathlib.Omega.{arith}
-use lib.Ieee as ieee
-use lib.Ieee.{lt, is_nan, of_bits, to_bits}
-use lib.ListN.{length, get_or}
+use Rattle.std.proofs.Common.{ℕ, zero, suc, ◌<◌, ◌≡◌, refl, sym, ap, ◌∙◌, List, [], ◌∷◌, ◌++◌, arith, length, get_or}
+use Rattle.std.specs.Float.Ieee.{lt, is_nan, of_bits, to_bits}
+use Rattle.std.specs.Float.Ieee as ieee
 use Rattle.little_endian.specs.Bytes.{le16, le32, is_finite}
 use Rattle.records.specs.Answers.{accepted, first_of, from}
 use Rattle.records.specs.Fields.{limit16, limit32, code, finite, bound, ordered, cap, colour_from, run, head_fields, point_fields, scalar_codes, scalar_floats, scalar_fields, elastic_codes, corotational_fields, neo_hookean_fields, fields}

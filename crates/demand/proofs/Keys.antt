@@ -1,15 +1,8 @@
 -- Acceptance and relistings of frames, as the proof over any local steps asks for them. check's key of a row has the ids that it names, and that of the sweeps has four places, with 0xFFFFFFFF for one that is not named: of a point in range they say the same. Assumes nothing.
-use Prim.Native.Nat.{ℕ, zero, suc, ◌≤◌, ◌<◌}
-use mathlib.Core.Path.{◌≡◌, refl, sym, ◌∙◌, subst}
-use mathlib.Core.Bool.{Bool, true, false, cond}
-use mathlib.Core.Logic.{inl, inr, ◌≢◌}
+use Rattle.std.proofs.Common.{ℕ, zero, suc, ◌≤◌, ◌<◌, ◌≡◌, refl, sym, ◌∙◌, subst, Bool, true, false, cond, inl, inr, ◌≢◌, List, [], ◌∷◌}
+use Rattle.std.proofs.Common.{arith, not-suc-le-zero, le_of_suc-le-suc, ltb, eqb, length, get_or, take, ltb-true}
 use mathlib.Core.List.Memᴰ
-use mathlib.Core.List.{List, [], ◌∷◌, Memᴰ}
-use native.Mathlib.Omega.{arith}
-use native.Mathlib.Nat.{not-suc-le-zero, le_of_suc-le-suc}
-use lib.Dec.{ltb, eqb}
-use lib.ListN.{length, get_or, take}
-use borrow.Author.Tests.{ltb-true}
+use mathlib.Core.List.{Memᴰ}
 use Rattle.little_endian.specs.Bytes.{le16}
 use Rattle.relisting.specs.Relist as any
 use Rattle.places.specs.Places.{Ids}

@@ -1,12 +1,6 @@
 -- What a run leaves of an accepted frame, parted again: the head as it was, and the points and rows of the sweeps. Assumes nothing.
-use Prim.Native.Nat.{ℕ, ◌+◌, ◌≤◌}
-use mathlib.Core.Path.{◌≡◌, refl, sym, ap, ◌∙◌, subst}
-use mathlib.Core.Bool.{cond}
-use mathlib.Core.List.{List, [], ◌∷◌, ◌++◌, append_assoc, append-nil}
-use native.Mathlib.Omega.{arith}
-use lib.Dec.{eqb}
-use lib.ListN.{length, length-append}
-use lib.Seq.{take_at}
+use Rattle.std.proofs.Common.{ℕ, ◌+◌, ◌≤◌, ◌≡◌, refl, sym, ap, ◌∙◌, subst, cond, List, [], ◌∷◌, ◌++◌, append_assoc, append-nil, arith, eqb}
+use Rattle.std.proofs.Common.{length, length-append, take_at}
 use Rattle.little_endian.specs.Bytes.{le16, le32}
 use Rattle.little_endian.proofs.Parts.{le16_part, le32_part}
 use Rattle.records.specs.declared.Answer.{Answer}

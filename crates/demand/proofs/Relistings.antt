@@ -1,12 +1,8 @@
 -- The first part of demand 3: a relisting of an accepted frame is accepted, at 0. Assumes nothing.
-use Prim.Native.Nat.{ℕ, ◌+◌, ◌≤◌, ◌<◌}
-use mathlib.Core.Path.{◌≡◌, sym, ap, ◌∙◌, subst, subst₂}
+use Rattle.std.proofs.Common.{ℕ, ◌+◌, ◌≤◌, ◌<◌, ◌≡◌, sym, ap, ◌∙◌, subst, subst₂, List, [], ◌++◌, append_assoc, append-nil, arith, length}
+use Rattle.std.proofs.Common.{take, length-append, take_at}
+use Rattle.std.proofs.Math.Decide.{dec_lt}
 use mathlib.Core.List.Memᴰ
-use mathlib.Core.List.{List, [], ◌++◌, append_assoc, append-nil}
-use native.Mathlib.Omega.{arith}
-use native.Mathlib.Decide.{dec_lt}
-use lib.ListN.{length, take, length-append}
-use lib.Seq.{take_at}
 use Rattle.little_endian.specs.Bytes.{le32}
 use Rattle.records.specs.declared.Due.TheVariants.{Head, Point, Row}
 use Rattle.records.specs.Answers.{accepted}

@@ -1,9 +1,5 @@
 -- What is put into a list of bytes leaves its length. Assumes nothing.
-use Prim.Native.Nat.{ℕ, zero, suc, ◌+◌, ◌*◌}
-use mathlib.Core.Path.{◌≡◌, refl, ◌∙◌}
-use mathlib.Core.List.{List}
-use lib.Ieee.{Float}
-use lib.ListN.{length}
+use Rattle.std.proofs.Common.{ℕ, zero, suc, ◌+◌, ◌*◌, ◌≡◌, refl, ◌∙◌, List, Float, length}
 use Rattle.loops.specs.Loops.{up_to}
 use Rattle.real.specs.Float.{at}
 use Rattle.little_endian.specs.Bytes.{f32_bytes}

@@ -1,18 +1,11 @@
 -- What was read and is put back as it is leaves the same bytes: a finite float, and a vector of three. Bytes stay bytes, and a vector beside what is put stays. Assumes nothing.
-use Prim.Native.Nat.{ℕ, zero, suc, ◌+◌, ◌*◌, ◌<◌, ◌≤◌, ◌/◌, ◌%◌}
-use mathlib.Core.Path.{◌≡◌, sym, ap, ◌∙◌, subst}
-use mathlib.Core.Bool.{Bool, true, not}
-use mathlib.Core.Logic.{inl, inr}
-use mathlib.Core.List.{List, [], ◌∷◌}
-use native.Mathlib.Omega.{arith}
-use native.Mathlib.Nat.{add-zero, mod-eq_of_lt}
-use native.Mathlib.Numerals.{add-one, add-two, add-three}
-use lib.Dec.{T}
-use lib.ListN.{get_or, set}
-use lib.Seq.{sets, set-get_or}
-use lib.Ieee.{Float, binary32, of_bits, to_bits, is_nan}
-use lib.Ieee.Bits.{to_bits-of_bits, nan_bits_is}
-use borrow.Author.Tests.{ltb-true}
+use Rattle.std.proofs.Common.{ℕ, zero, suc, ◌+◌, ◌*◌, ◌<◌, ◌≤◌, ◌/◌, ◌%◌, ◌≡◌, sym, ap, ◌∙◌, subst, Bool, true, not, inl, inr, List, []}
+use Rattle.std.proofs.Common.{◌∷◌, arith, add-zero, mod-eq_of_lt, add-one, T, get_or, set, Float, ltb-true}
+use Rattle.std.specs.Float.Ieee.{binary32, of_bits, to_bits, is_nan}
+use Rattle.std.proofs.Math.Numerals.{add-two, add-three}
+use Rattle.std.proofs.lemmas.List.{set-get_or}
+use Rattle.std.proofs.lemmas.List.Edits.{sets}
+use Rattle.std.specs.Float.Ieee.Bits.{to_bits-of_bits, nan_bits_is}
 use Rattle.little_endian.specs.Bytes.{le32, f32_at, bytes4, f32_bytes, is_finite, patch}
 use Rattle.little_endian.proofs.Parts.{Bytes, le32_small}
 use Rattle.little_endian.proofs.Patch.{Beside, le32_beside}

@@ -1,15 +1,9 @@
 -- What put_f32 writes is as it writes: one float put leaves a record's floats so, and two bytes before them do. Assumes nothing.
-use Prim.Native.Nat.{ℕ, ◌+◌, ◌%◌, ◌≤◌, ◌<◌}
-use mathlib.Core.Path.{◌≡◌, refl, sym, ap, ◌∙◌, subst}
-use mathlib.Core.Bool.{Bool, true, false, not}
-use mathlib.Core.Logic.{◌⊎◌, inl, inr}
-use mathlib.Core.List.{List}
-use native.Mathlib.Omega.{arith}
-use lib.Dec.{T, eqb, ltb, lit≤}
-use lib.ListN.{length}
-use lib.Ieee.{Float, nan, inf, fin, is_nan, binary32, of_bits, to_bits, fits, nan_bits}
-use lib.Ieee.Bits.{of_bits-to_bits, to_bits-lt}
-use borrow.Author.Tests.{eqb-true, eqb-false, ltb-true, ltb-false, lt-ltb}
+use Rattle.std.proofs.Common.{ℕ, ◌+◌, ◌%◌, ◌≤◌, ◌<◌, ◌≡◌, refl, sym, ap, ◌∙◌, subst, Bool, true, false, not, ◌⊎◌, inl, inr, List, arith, T}
+use Rattle.std.proofs.Common.{eqb, ltb, lit≤, length, Float, eqb-true, ltb-true, ltb-false, lt-ltb}
+use Rattle.std.specs.Float.Ieee.{nan, inf, fin, is_nan, binary32, of_bits, to_bits, fits, nan_bits}
+use Rattle.std.proofs.lemmas.Bool.{eqb-false}
+use Rattle.std.specs.Float.Ieee.Bits.{of_bits-to_bits, to_bits-lt}
 use Rattle.std.proofs.lemmas.Float.{not_nan_f32_bits}
 use Rattle.std.proofs.lemmas.Bool.{false≢true}
 use Rattle.little_endian.specs.Bytes.{le32, bytes2, f32_bytes, patch}

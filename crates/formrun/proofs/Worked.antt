@@ -1,14 +1,6 @@
 -- Document 01's example of formrun, and that the first 65,537 bytes of the input decide. Assumes nothing.
-use mathlib.Core.Path.{◌≡◌, refl, ap, subst, ◌∙◌}
-use mathlib.Core.Bool.{Bool, true, false}
-use mathlib.Core.List.{List, [], ◌∷◌}
-use Prim.Native.Nat.{ℕ, ◌≤◌, ◌<◌}
-use native.Mathlib.Omega.{arith}
-use lib.Dec.{leb}
-use lib.ListN.{length, take}
-use lib.Seq.{take_all, length-take-le}
-use borrow.Author.Tests.{leb-true, leb-false, lt-ltb}
-use Rattle.std.proofs.Common.{None, Some, IfSome}
+use Rattle.std.proofs.Common.{◌≡◌, refl, ap, subst, ◌∙◌, Bool, true, false, List, [], ◌∷◌, ℕ, ◌≤◌, ◌<◌, arith, leb, length, take, take_all}
+use Rattle.std.proofs.Common.{length-take-le, leb-true, leb-false, lt-ltb, None, Some, IfSome}
 use Rattle.std.specs.declared.option.Option.{Option}
 use Rattle.std.specs.Option.{option_map}
 use Rattle.std.specs.Io.KnownBytes.{Appends}

@@ -1,9 +1,6 @@
 -- Not every frame is refused: one of a head alone, and one with a row, are accepted. Assumes nothing.
-use Prim.Native.Nat.{ℕ}
-use mathlib.Core.Path.{◌≡◌, refl}
-use mathlib.Core.List.{List, ◌++◌}
-use lib.ListN.{replicate}
-use lib.Ieee.{lt, is_nan, of_bits}
+use Rattle.std.specs.Prelude.{ℕ, ◌≡◌, refl, List, ◌++◌, replicate}
+use Rattle.std.specs.Float.Ieee.{lt, is_nan, of_bits}
 use Rattle.little_endian.specs.Bytes.{bytes2, bytes4, le16, le32, is_finite}
 use Rattle.records.specs.Answers.{accepted, first_of, from}
 use Rattle.records.specs.Fields.{limit16, limit32, code, finite, bound, ordered, cap, colour_from, run, head_fields, point_fields, scalar_codes, scalar_floats, scalar_fields, elastic_codes, corotational_fields, neo_hookean_fields, fields}

@@ -1,10 +1,5 @@
 -- What the head of a frame that passes says, and the frame's tests part by part. Assumes nothing.
-use Prim.Native.Nat.{ℕ, ◌+◌, ◌≤◌}
-use mathlib.Core.Path.{◌≡◌, refl, sym, ap, ◌∙◌}
-use mathlib.Core.List.{List, []}
-use native.Mathlib.Omega.{arith}
-use lib.ListN.{length}
-use Rattle.std.specs.Prelude.{Result, Ok}
+use Rattle.std.proofs.Common.{ℕ, ◌+◌, ◌≤◌, ◌≡◌, refl, sym, ap, ◌∙◌, List, [], arith, length, Result, Ok}
 use Rattle.little_endian.specs.Bytes.{le16, le32}
 use Rattle.little_endian.proofs.Parts.{le32_part}
 use Rattle.records.specs.declared.Due.TheVariants.{Head, Point, Row}

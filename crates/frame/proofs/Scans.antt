@@ -1,10 +1,5 @@
 -- The loop over records: it stops at the first refusal, and else comes to the end of the last record. Assumes nothing.
-use Prim.Native.Nat.{ℕ, suc, ◌+◌, ◌≤◌, ◌<◌}
-use mathlib.Core.Path.{◌≡◌, refl, sym, ap, ◌∙◌}
-use mathlib.Core.List.{List}
-use native.Mathlib.Omega.{arith}
-use lib.ListN.{length}
-use Rattle.std.specs.Prelude.{Result, Ok, Err}
+use Rattle.std.proofs.Common.{ℕ, suc, ◌+◌, ◌≤◌, ◌<◌, ◌≡◌, refl, sym, ap, ◌∙◌, List, arith, length, Result, Ok, Err}
 use Rattle.little_endian.specs.Bytes.{le16}
 use Rattle.little_endian.proofs.Parts.{le16_part}
 use Rattle.records.specs.declared.Due.{Due}

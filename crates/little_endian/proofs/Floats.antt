@@ -1,13 +1,9 @@
 -- Which bit patterns are finite, and which are those of a NaN. Assumes nothing.
-use Prim.Native.Nat.{ℕ, zero, suc, ◌+◌, ◌≤◌, ◌<◌, ◌/◌, ◌%◌}
-use mathlib.Core.Path.{◌≡◌, refl, sym, ◌∙◌, subst}
-use mathlib.Core.Bool.{Bool, true, false, cond, not}
-use native.Mathlib.Omega.{arith}
-use native.Mathlib.Decide.{dec_lt}
-use lib.Dec.{T, leb, ltb, eqb}
-use lib.Ieee.{Float, nan, inf, fin, is_nan, odd, of_fields, of_bits, nan_bits, binary32}
-use lib.Ieee.Bits.{nan_bits_is, nan_bits_above}
-use borrow.Author.Tests.{lt-ltb, le-ltb, eq-eqb, ne_eqb}
+use Rattle.std.proofs.Common.{ℕ, zero, suc, ◌+◌, ◌≤◌, ◌<◌, ◌/◌, ◌%◌, ◌≡◌, refl, sym, ◌∙◌, subst, Bool, true, false, cond, not, arith, T}
+use Rattle.std.proofs.Common.{leb, ltb, eqb, Float, lt-ltb, le-ltb, eq-eqb, ne_eqb}
+use Rattle.std.specs.Float.Ieee.{nan, inf, fin, is_nan, odd, of_fields, of_bits, nan_bits, binary32}
+use Rattle.std.proofs.Math.Decide.{dec_lt}
+use Rattle.std.specs.Float.Ieee.Bits.{nan_bits_is, nan_bits_above}
 use Rattle.little_endian.specs.Bytes.{is_finite}
 
 is_nan_lem : (x : Float) → is_nan x ≡ true → x ≡ nan

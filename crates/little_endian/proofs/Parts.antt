@@ -1,11 +1,8 @@
 -- Laws of parts of a list of bytes: what is read in a part, and in the middle one of three. Assumes nothing.
-use Prim.Native.Nat.{ℕ, ◌+◌, ◌-◌, ◌≤◌, ◌<◌}
-use mathlib.Core.Path.{◌≡◌, refl, sym, ap, ◌∙◌}
-use mathlib.Core.List.{List, ◌++◌}
-use native.Mathlib.Omega.{arith}
-use native.Mathlib.Nat.{add-sub_cancel_left}
-use lib.ListN.{length, get_or, take, drop, length-take, length-drop, get_or-append}
-use lib.Seq.{take_at, drop_at, get_or-take, get_or-drop, get_or-append-add, drop-drop}
+use Rattle.std.proofs.Common.{ℕ, ◌+◌, ◌-◌, ◌≤◌, ◌<◌, ◌≡◌, refl, sym, ap, ◌∙◌, List, ◌++◌, arith, length, get_or, take, drop, length-take}
+use Rattle.std.proofs.Common.{length-drop, take_at, drop_at, get_or-take, get_or-drop, get_or-append-add, drop-drop}
+use Rattle.std.proofs.Math.ListN.{get_or-append}
+use Rattle.std.proofs.Math.Nat.{add-sub_cancel_left}
 use Rattle.little_endian.specs.Bytes.{le16, le32, part}
 
 -- ---- numbers in a part

@@ -1,15 +1,13 @@
 -- Laws of bytes replaced at an offset (`sets`, which `patch` is): where the bytes go, what is read after, and which commute. Assumes nothing.
-use Prim.Native.Nat.{ℕ, zero, suc, ◌+◌, ◌*◌, ◌≤◌, ◌<◌, ◌/◌, ◌%◌}
-use mathlib.Core.Path.{◌≡◌, refl, sym, ap, ◌∙◌}
-use mathlib.Core.List.{List, [], ◌∷◌, ◌++◌}
-use native.Mathlib.Omega.{arith}
-use native.Mathlib.Nat.{zero-add, add-zero, suc-add, add-suc, div-div-eq-div-mul, mod-eq_of_lt}
-use lib.Dec.{T}
-use mathlib.Core.Logic.{◌⊎◌, inl, inr}
-use lib.Ieee.{Float, binary32, fits, of_bits, to_bits}
-use lib.Ieee.Bits.{of_bits-to_bits, to_bits-lt}
-use lib.ListN.{length, get_or, set, length-set}
-use lib.Seq.{sets, length-sets, set-append_left, set_comm, get_or-set_other, get_or-set_same}
+use Rattle.std.proofs.Common.{ℕ, zero, suc, ◌+◌, ◌*◌, ◌≤◌, ◌<◌, ◌/◌, ◌%◌, ◌≡◌, refl, sym, ap, ◌∙◌, List, [], ◌∷◌, ◌++◌, arith, zero-add}
+use Rattle.std.proofs.Common.{add-zero, suc-add, add-suc, mod-eq_of_lt, T, ◌⊎◌, inl, inr, Float, length, get_or, set, length-set}
+use Rattle.std.proofs.Common.{get_or-set_other, get_or-set_same}
+use Rattle.std.specs.Float.Ieee.{binary32, fits, of_bits, to_bits}
+use Rattle.std.proofs.Math.Nat.{div-div-eq-div-mul}
+use Rattle.std.proofs.Math.Seq.{length-sets}
+use Rattle.std.proofs.lemmas.List.{set-append_left, set_comm}
+use Rattle.std.proofs.lemmas.List.Edits.{sets}
+use Rattle.std.specs.Float.Ieee.Bits.{of_bits-to_bits, to_bits-lt}
 use Rattle.little_endian.specs.Bytes.{le16, le32, f32_at, bytes2, bytes4, f32_bytes, patch}
 
 set-right : (A B : List ℕ) (k a : ℕ) → set (A ++ B) (length A + k) a ≡ A ++ set B k a

@@ -1,15 +1,9 @@
 -- Fetching from points in a frame, and taking from them, is fetching and taking in a list of points. Assumes nothing.
-use Prim.Native.Nat.{ℕ, zero, suc, ◌+◌, ◌*◌, ◌≤◌, ◌<◌}
-use mathlib.Core.Path.{◌≡◌, refl, sym, ap, ◌∙◌}
-use mathlib.Core.Bool.{Bool, true, false, cond}
-use mathlib.Core.Option.{none}
-use mathlib.Core.List.{List, [], ◌∷◌, ◌++◌, append_assoc}
-use native.Mathlib.Omega.{arith}
-use native.Mathlib.Nat.{add-zero, not-suc-le-zero, le_of_suc-le-suc}
-use lib.Dec.{ltb}
-use lib.ListN.{length, drop, length-append, get_elem?}
-use lib.Seq.{take_at, drop_at}
-use borrow.Author.Tests.{ltb-true, ltb-false}
+use Rattle.std.proofs.Common.{ℕ, zero, suc, ◌+◌, ◌*◌, ◌≤◌, ◌<◌, ◌≡◌, refl, sym, ap, ◌∙◌, Bool, true, false, cond, List, [], ◌∷◌, ◌++◌}
+use Rattle.std.proofs.Common.{append_assoc, arith, add-zero, not-suc-le-zero, le_of_suc-le-suc, ltb, length, drop, length-append, take_at}
+use Rattle.std.proofs.Common.{drop_at, ltb-true, ltb-false}
+use Rattle.std.proofs.Math.ListN.{get_elem?}
+use Rattle.std.proofs.Math.Option.{none}
 use Rattle.little_endian.specs.Bytes.{part}
 use Rattle.little_endian.proofs.Parts.{part_middle}
 use Rattle.records.specs.Records.{flatten}

@@ -1,19 +1,12 @@
 -- Laws of a frame whose velocities are set apart: its rows are where they are, and fetching and taking apart is fetching and taking in it. Assumes nothing.
-use Prim.Native.Nat.{ℕ, zero, suc, ◌+◌, ◌*◌, ◌≤◌, ◌<◌}
-use mathlib.Core.Path.{◌≡◌, refl, sym, ap, ◌∙◌, subst}
-use mathlib.Core.Bool.{Bool, true, false, cond}
-use mathlib.Core.Logic.{◌⊎◌, inl, inr}
-use mathlib.Core.List.{List, [], ◌∷◌, ◌++◌}
-use native.Mathlib.Omega.{arith}
-use native.Mathlib.Nat.{add-zero}
-use native.Mathlib.Numerals.{add-one}
-use lib.Dec.{ltb}
-use lib.Ieee.{binary32, of_bits}
-use lib.Ieee.Fits.{sub-fits}
-use lib.ListN.{length, set, take, drop, take-append-drop, length-set}
-use lib.Seq.{sets, set-set, set_comm, length-take-le, take_at, drop_at, drop-drop, get_or-set_same, get_or-set_other}
-use borrow.Author.Count.{below_more}
-use borrow.Author.Tests.{ltb-true, ltb-false}
+use Rattle.std.proofs.Common.{ℕ, zero, suc, ◌+◌, ◌*◌, ◌≤◌, ◌<◌, ◌≡◌, refl, sym, ap, ◌∙◌, subst, Bool, true, false, cond, ◌⊎◌, inl, inr}
+use Rattle.std.proofs.Common.{List, [], ◌∷◌, ◌++◌, arith, add-zero, add-one, ltb, length, set, take, drop, take-append-drop, length-set}
+use Rattle.std.proofs.Common.{set-set, length-take-le, take_at, drop_at, drop-drop, get_or-set_same, get_or-set_other, below_more, ltb-true}
+use Rattle.std.proofs.Common.{ltb-false}
+use Rattle.std.specs.Float.Ieee.{binary32, of_bits}
+use Rattle.std.proofs.lemmas.List.{set_comm}
+use Rattle.std.proofs.lemmas.List.Edits.{sets}
+use Rattle.std.specs.Float.Ieee.Fits.{sub-fits}
 use Rattle.little_endian.specs.Bytes.{f32_at, f32_bytes, part}
 use Rattle.little_endian.proofs.Parts.{Bytes, le32_part, length_part}
 use Rattle.little_endian.proofs.Patch.{sets-left, sets-middle, sets-comm, f32_back, Beside, le32_beside}

@@ -1,12 +1,5 @@
 -- Which tests a record's kind gives it, and how long a record that is due is. Assumes nothing.
-use Prim.Native.Nat.{ℕ}
-use mathlib.Core.Path.{◌≡◌, refl, sym}
-use mathlib.Core.Bool.{Bool, true, false, ◌&&◌, ◌||◌}
-use mathlib.Core.Logic.{◌⊎◌, inl, inr}
-use mathlib.Core.List.{List}
-use native.Mathlib.Omega.{arith}
-use lib.Dec.{eqb}
-use borrow.Author.Tests.{eq-eqb, ne_eqb, eqb-true}
+use Rattle.std.proofs.Common.{ℕ, ◌≡◌, refl, sym, Bool, true, false, ◌&&◌, ◌||◌, ◌⊎◌, inl, inr, List, arith, eqb, eq-eqb, ne_eqb, eqb-true}
 use Rattle.little_endian.specs.Bytes.{le16}
 use Rattle.records.specs.declared.Due.{Due}
 use Rattle.records.specs.declared.Due.TheVariants.{Head, Point, Row}

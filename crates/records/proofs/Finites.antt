@@ -1,10 +1,5 @@
 -- The quick test of a run of floats: what its loop has found so far, and that where it passes the run has no refusal. Assumes nothing.
-use Prim.Native.Nat.{ℕ, zero, suc, ◌+◌, ◌-◌, ◌*◌, ◌≤◌, ◌<◌}
-use mathlib.Core.Path.{◌≡◌, refl, sym, ◌∙◌}
-use mathlib.Core.Bool.{Bool, true, false, ◌&&◌}
-use mathlib.Core.List.{List}
-use native.Mathlib.Omega.{arith}
-use Rattle.std.specs.Prelude.{Ok}
+use Rattle.std.proofs.Common.{ℕ, zero, suc, ◌+◌, ◌-◌, ◌*◌, ◌≤◌, ◌<◌, ◌≡◌, refl, sym, ◌∙◌, Bool, true, false, ◌&&◌, List, arith, Ok}
 use Rattle.little_endian.specs.Bytes.{f32_at, is_finite}
 use Rattle.records.specs.Answers.{outcome, from, outcome_from}
 use Rattle.records.specs.Fields.{run, finite}

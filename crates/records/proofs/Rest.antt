@@ -1,8 +1,6 @@
 -- Any loop that goes by what is left to do: from its present state it comes to what was to do at the start. Assumes nothing.
-use Prim.Native.Nat.{ℕ, suc, ◌+◌, ◌-◌, ◌≤◌, ◌<◌}
-use mathlib.Core.Path.{◌≡◌, sym, ap, ◌∙◌}
-use native.Mathlib.Omega.{arith}
-use native.Mathlib.Nat.{sub-zero}
+use Rattle.std.proofs.Common.{ℕ, suc, ◌+◌, ◌-◌, ◌≤◌, ◌<◌, ◌≡◌, sym, ap, ◌∙◌, arith}
+use Rattle.std.proofs.Math.Nat.{sub-zero}
 
 -- before turn i of n the state is a; f k a is what k more turns make of it
 pub record Rest {A B : Type 0} (f : ℕ → A → B) (n : ℕ) (a₀ : A) (i : ℕ) (a : A) : Type 0 where

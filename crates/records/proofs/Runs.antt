@@ -1,9 +1,5 @@
 -- The loop over a run of floats stops at the first refusal. Assumes nothing.
-use Prim.Native.Nat.{ℕ, suc, ◌+◌, ◌*◌, ◌≤◌, ◌<◌}
-use mathlib.Core.Path.{◌≡◌, refl, ap, ◌∙◌}
-use mathlib.Core.List.{List}
-use native.Mathlib.Omega.{arith}
-use Rattle.std.specs.Prelude.{Result, Ok, Err}
+use Rattle.std.proofs.Common.{ℕ, suc, ◌+◌, ◌*◌, ◌≤◌, ◌<◌, ◌≡◌, refl, ap, ◌∙◌, List, arith, Result, Ok, Err}
 use Rattle.records.specs.declared.Refused.{Refused}
 use Rattle.records.specs.Answers.{Test, outcome, from, outcome_from}
 use Rattle.records.specs.Fields.{run}

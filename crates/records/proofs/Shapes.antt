@@ -1,14 +1,8 @@
 -- A record's shape (six bytes there, kind and length due, whole), and a record's tests in its frame. Assumes nothing.
-use Prim.Native.Nat.{ℕ, ◌+◌, ◌-◌, ◌≤◌}
-use mathlib.Core.Path.{◌≡◌, refl, sym, ap, ◌∙◌}
-use mathlib.Core.Bool.{Bool, true, false, not}
-use mathlib.Core.List.{List}
-use native.Mathlib.Omega.{arith}
-use native.Mathlib.Decide.{dec_lt}
-use lib.ListN.{length}
-use lib.Dec.{ltb}
-use borrow.Author.Tests.{le-ltb, lt-ltb, ltb-false, not-false}
-use Rattle.std.specs.Prelude.{Result, Ok}
+use Rattle.std.proofs.Common.{ℕ, ◌+◌, ◌-◌, ◌≤◌, ◌≡◌, refl, sym, ap, ◌∙◌, Bool, true, false, not, List, arith, length, ltb, le-ltb, lt-ltb}
+use Rattle.std.proofs.Common.{ltb-false, Result, Ok}
+use Rattle.std.proofs.Math.Decide.{dec_lt}
+use Rattle.std.proofs.lemmas.Bool.{not-false}
 use Rattle.little_endian.specs.Bytes.{le16, le32}
 use Rattle.little_endian.proofs.Parts.{le16_part, length_part}
 use Rattle.records.specs.declared.Due.{Due}

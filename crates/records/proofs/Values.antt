@@ -1,9 +1,5 @@
 -- What the fields of a record that passes its tests hold. Assumes nothing.
-use Prim.Native.Nat.{ℕ, ◌≤◌}
-use mathlib.Core.Path.{◌≡◌, sym, subst}
-use mathlib.Core.List.{List}
-use native.Mathlib.Omega.{arith}
-use borrow.Author.Tests.{le-ltb, ltb-false}
+use Rattle.std.proofs.Common.{ℕ, ◌≤◌, ◌≡◌, sym, subst, List, arith, le-ltb, ltb-false}
 use Rattle.little_endian.specs.Bytes.{le16, le32}
 use Rattle.records.specs.declared.Due.TheVariants.{Row}
 use Rattle.records.specs.Answers.{Passed, ◌then◌}

@@ -1,9 +1,9 @@
 -- The test that computes acceptance (specs/Check): two rows clash by the test where they clash, and a listing that passes is accepted.
 -- Assumes nothing.
-use Rattle.std.specs.Prelude.{◌≡◌, refl, Bool, ◌||◌, not, ◌≢◌, ◌⊎◌, ◌↔◌, ℕ, ◌<◌, T, leb, eqb, length, get_or}
-use Rattle.std.proofs.Common.{subst, inl, inr, leb→le, eqb→eq, T_not}
+use Rattle.std.proofs.Common.{◌≡◌, refl, Bool, ◌||◌, not, ◌≢◌, ◌⊎◌, ◌↔◌, ℕ, ◌<◌, T, leb, eqb, length, get_or, subst, inl, inr, leb→le}
+use Rattle.std.proofs.Common.{eqb→eq, T_not, List, [], ◌∷◌, map}
 use mathlib.Core.List.Memᴰ
-use mathlib.Core.List.{List, [], ◌∷◌, map, Memᴰ}
+use mathlib.Core.List.{Memᴰ}
 use Rattle.std.proofs.Math.Dec.{eqb_refl}
 use Rattle.relisting.specs.Build.{listed}
 use Rattle.relisting.specs.Relist.{Clash, Accepted}

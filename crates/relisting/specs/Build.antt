@@ -1,12 +1,11 @@
 -- Local steps from local steps: nothing; one after another; by a test of the row. And the form that every row function has: fetch what the named
 -- points hold, compute from the row and that alone, and then alter the points of a list one by one.
 -- Assumes nothing.
-use Rattle.std.specs.Prelude.{◌≡◌, refl, Bool, true, false, ◌≢◌, ℕ, zero, suc}
-use Rattle.std.proofs.Common.{sym, ap, ◌∙◌, subst, inl, inr, arith}
+use Rattle.std.specs.Prelude.{◌≡◌, refl, Bool, true, false, ◌≢◌, ℕ, zero, suc, sym, ap, ◌∙◌, subst, inl, inr, arith, List, [], ◌∷◌}
 use Rattle.std.proofs.Math.Option.{Option, none, some}
 use Rattle.std.proofs.Math.Decide.{ℕ_discrete}
 use mathlib.Core.List.Memᴰ
-use mathlib.Core.List.{List, [], ◌∷◌, Memᴰ}
+use mathlib.Core.List.{Memᴰ}
 use Rattle.std.proofs.Math.ListN.{get_elem?}
 use Rattle.relisting.specs.Access.{Access, Agree, Local}
 use Rattle.relisting.specs.Steps.{◌then◌, pick, choose, nothing, fetch, alter, alters}

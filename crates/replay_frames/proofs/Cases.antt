@@ -1,7 +1,6 @@
 -- Each case of the definitions of an entry, and what one entry more makes of the count. Assumes nothing.
-use Rattle.std.specs.Prelude.{◌≡◌, ℕ, ◌+◌, ◌%◌, ◌<◌, ◌≤◌, Bool, true, false, List, length, take}
-use Rattle.std.proofs.Common.{refl, arith}
-use borrow.Author.Tests.{le-leb, lt-leb, eq-eqb, ne_eqb}
+use Rattle.std.proofs.Common.{◌≡◌, ℕ, ◌+◌, ◌%◌, ◌<◌, ◌≤◌, Bool, true, false, List, length, take, refl, arith, le-leb, eq-eqb, ne_eqb}
+use Rattle.std.proofs.lemmas.Bool.{lt-leb}
 use Rattle.little_endian.specs.Bytes.{bytes2, bytes4, patch}
 use Rattle.records.specs.declared.Answer.{Answer}
 use Rattle.frame.specs.Check.{check_of}

@@ -1,9 +1,8 @@
 -- A row's update, warm start and solve are local: each goes by its row and the points that the row names, alters only named points in range, and keeps colour, names and masses. Assumes nothing.
-use Rattle.std.specs.Prelude.{ℕ, ◌≡◌, refl, Bool, true, false, ltb, Float}
-use Rattle.std.proofs.Common.{ap, inl, inr}
+use Rattle.std.specs.Prelude.{ℕ, ◌≡◌, refl, Bool, true, false, ltb, Float, ap, inl, inr, List, [], ◌∷◌}
 use Rattle.std.proofs.Math.Option.{Option}
 use mathlib.Core.List.Memᴰ
-use mathlib.Core.List.{List, [], ◌∷◌, Memᴰ}
+use mathlib.Core.List.{Memᴰ}
 use Rattle.relisting.specs.Access.{Access, Local}
 use Rattle.relisting.specs.Build.{listed, work_local}
 use Rattle.vector.specs.declared.Vec3.{Vec3}

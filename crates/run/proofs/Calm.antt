@@ -1,11 +1,7 @@
 -- The velocities of an accepted frame are finite. Assumes nothing.
-use Prim.Native.Nat.{ℕ, zero, suc, ◌+◌, ◌*◌, ◌≤◌, ◌<◌}
-use mathlib.Core.Path.{◌≡◌, sym, ap, ◌∙◌, subst}
-use mathlib.Core.List.{List, [], ◌∷◌, ◌++◌, append_assoc}
-use native.Mathlib.Omega.{arith}
-use native.Mathlib.Nat.{not-suc-le-zero, le_of_suc-le-suc}
-use lib.Ieee.{binary32, of_bits}
-use lib.ListN.{length, length-append}
+use Rattle.std.proofs.Common.{ℕ, zero, suc, ◌+◌, ◌*◌, ◌≤◌, ◌<◌, ◌≡◌, sym, ap, ◌∙◌, subst, List, [], ◌∷◌, ◌++◌, append_assoc, arith}
+use Rattle.std.proofs.Common.{not-suc-le-zero, le_of_suc-le-suc, length, length-append}
+use Rattle.std.specs.Float.Ieee.{binary32, of_bits}
 use Rattle.little_endian.specs.Bytes.{le16, le32, is_finite}
 use Rattle.little_endian.proofs.Parts.{le32_middle}
 use Rattle.records.specs.declared.Due.TheVariants.{Point}

@@ -1,12 +1,6 @@
 -- An accepted frame is laid out from its own rows and points, and what the sweeps make of it is the run of the rules. Assumes nothing.
-use Prim.Native.Nat.{ℕ, ◌≤◌}
-use mathlib.Core.Path.{◌≡◌, sym, ap, ◌∙◌, subst}
-use mathlib.Core.Bool.{false}
-use mathlib.Core.List.{List, [], ◌∷◌, ◌++◌}
-use native.Mathlib.Omega.{arith}
-use lib.ListN.{length, length-append}
-use borrow.Author.Tests.{eq-eqb, ne_eqb}
-use Rattle.std.specs.Prelude.{Bool, true, cond, Float, refl, Result, Ok, Err, Some, None}
+use Rattle.std.proofs.Common.{ℕ, ◌≤◌, ◌≡◌, sym, ap, ◌∙◌, subst, false, List, [], ◌∷◌, ◌++◌, arith, length, length-append, eq-eqb, ne_eqb}
+use Rattle.std.proofs.Common.{Bool, true, cond, Float, refl, Result, Ok, Err, Some, None}
 use Rattle.little_endian.specs.Bytes.{le16, le32}
 use Rattle.records.specs.declared.Answer.{Answer}
 use Rattle.records.specs.declared.Due.TheVariants.{Point, Row}

@@ -1,13 +1,7 @@
 -- The floats of an accepted row are as put_f32 writes them: none is a NaN. Assumes nothing.
-use Prim.Native.Nat.{ℕ, ◌+◌, ◌*◌, ◌-◌, ◌/◌, ◌%◌, ◌≤◌}
-use mathlib.Core.Path.{◌≡◌, refl, sym, ◌∙◌, subst}
-use mathlib.Core.Bool.{Bool, true, false}
-use mathlib.Core.List.{List}
-use native.Mathlib.Omega.{arith}
-use lib.Dec.{ltb}
-use lib.ListN.{length}
-use lib.Ieee.{binary32, of_bits, is_nan}
-use borrow.Author.Tests.{ltb-true, ltb-false}
+use Rattle.std.proofs.Common.{ℕ, ◌+◌, ◌*◌, ◌-◌, ◌/◌, ◌%◌, ◌≤◌, ◌≡◌, refl, sym, ◌∙◌, subst, Bool, true, false, List, arith, ltb, length}
+use Rattle.std.proofs.Common.{ltb-true, ltb-false}
+use Rattle.std.specs.Float.Ieee.{binary32, of_bits, is_nan}
 use Rattle.little_endian.specs.Bytes.{le16, le32, is_finite}
 use Rattle.little_endian.proofs.Floats.{finite_bits, nan_bits_lem}
 use Rattle.records.specs.declared.Due.TheVariants.{Row}

@@ -1,10 +1,7 @@
 -- A run moves points and takes its resweeps: a frame of one point at rest and one row that pulls it, run whole, by computation. Assumes nothing.
-use Prim.Native.Nat.{ℕ}
-use mathlib.Core.Path.{◌≡◌, refl, ap, ◌∙◌}
-use mathlib.Core.List.{List, [], ◌++◌}
-use lib.ListN.{get_or, replicate}
-use lib.Ieee as ieee
-use lib.Ieee.{Float, binary32, is_nan, of_bits, to_bits}
+use Rattle.std.proofs.Common.{ℕ, ◌≡◌, refl, ap, ◌∙◌, List, [], ◌++◌, get_or, replicate, Float}
+use Rattle.std.specs.Float.Ieee.{binary32, is_nan, of_bits, to_bits}
+use Rattle.std.specs.Float.Ieee as ieee
 use Rattle.real.specs.Float.{f0, f½}
 use Rattle.real.specs.Real as r
 use Rattle.vector.specs.Vector as v

@@ -1,19 +1,12 @@
 -- A row's step where the velocities are set apart is its step in the frame that both stand for. Assumes nothing.
-use Prim.Native.Nat.{ℕ, ◌+◌, ◌*◌, ◌-◌, ◌≤◌, ◌<◌}
-use mathlib.Core.Path.{◌≡◌, refl, sym, ap, ◌∙◌, subst}
-use mathlib.Core.List.{List}
-use mathlib.Core.Bool.{Bool, true, false, cond}
-use lib.Dec.{eqb}
-use borrow.Author.Tests.{eqb-true}
+use Rattle.std.proofs.Common.{ℕ, ◌+◌, ◌*◌, ◌-◌, ◌≤◌, ◌<◌, ◌≡◌, refl, sym, ap, ◌∙◌, subst, List, Bool, true, false, cond, eqb, eqb-true}
+use Rattle.std.proofs.Common.{arith, add-zero, Float, length, take, drop}
+use Rattle.std.proofs.Math.Nat.{add-sub_cancel_left}
 use Rattle.std.proofs.lemmas.Bool.{false≢true}
 use Rattle.records.specs.Kinds.{row_kind}
 use Rattle.records.specs.declared.kinds.RowKind.{RowKind}
 use Rattle.records.specs.declared.kinds.RowKind.TheVariants.{Scalar, Corotational, NeoHookean}
-use native.Mathlib.Omega.{arith}
-use native.Mathlib.Nat.{add-zero, add-sub_cancel_left}
-use lib.Ieee.{Float}
 use Rattle.vector.specs.declared.Vec3.{Vec3}
-use lib.ListN.{length, take, drop}
 use Rattle.little_endian.specs.Bytes.{le16, le32, part}
 use Rattle.little_endian.proofs.Parts.{le32_part, le16_part, length_part}
 use Rattle.records.specs.Records.{record_length, record_at}

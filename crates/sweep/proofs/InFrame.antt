@@ -1,8 +1,7 @@
 -- The record of a row as a part of its frame: what the frame is after it was lent and came back. Assumes nothing.
-use Rattle.std.proofs.Common.{◌≡◌, sym, ap, ◌∙◌, subst, ℕ, ◌+◌, ◌-◌, ◌≤◌, List, ◌++◌, length, take, drop}
-use native.Mathlib.Nat.{add-sub_cancel_left}
-use lib.ListN.{length-append, take-append-drop}
-use lib.Seq.{drop-drop}
+use Rattle.std.proofs.Common.{◌≡◌, sym, ap, ◌∙◌, subst, ℕ, ◌+◌, ◌-◌, ◌≤◌, List, ◌++◌, length, take, drop, length-append, take-append-drop}
+use Rattle.std.proofs.Common.{drop-drop}
+use Rattle.std.proofs.Math.Nat.{add-sub_cancel_left}
 use Rattle.little_endian.specs.Bytes.{le16}
 use Rattle.records.specs.Records.{record_length, record_at}
 use Rattle.floats.specs.Written.{AllWritten}

@@ -1,10 +1,6 @@
 -- A row that stands in a frame: where its bytes are, and what the code may read and write there. Assumes nothing.
-use Prim.Native.Nat.{ℕ, ◌+◌, ◌*◌, ◌≤◌}
-use mathlib.Core.Path.{◌≡◌, sym, ap, ◌∙◌, subst}
-use mathlib.Core.List.{List, [], ◌∷◌, ◌++◌, append_assoc}
-use native.Mathlib.Omega.{arith}
-use native.Mathlib.Nat.{add-zero}
-use lib.ListN.{length, length-append}
+use Rattle.std.proofs.Common.{ℕ, ◌+◌, ◌*◌, ◌≤◌, ◌≡◌, sym, ap, ◌∙◌, subst, List, [], ◌∷◌, ◌++◌, append_assoc, arith, add-zero, length}
+use Rattle.std.proofs.Common.{length-append}
 use Rattle.little_endian.specs.Bytes.{le16, le32, part}
 use Rattle.little_endian.proofs.Parts.{part_middle, le16_middle, le32_middle}
 use Rattle.records.specs.Records.{record_length, record_at, flatten}

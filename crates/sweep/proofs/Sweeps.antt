@@ -1,10 +1,6 @@
 -- Laws of the loop over rows: a frame that is laid out stays so, and its rows and points are those of the rules. Assumes nothing.
-use Prim.Native.Nat.{ℕ, ◌+◌, ◌*◌, ◌≤◌, ◌<◌}
-use mathlib.Core.Path.{◌≡◌, refl, sym, ap, ◌∙◌, subst}
-use Rattle.std.proofs.Common.{Float, Option, Some, None}
-use mathlib.Core.List.{List, [], ◌∷◌, ◌++◌, append_assoc, append-nil}
-use native.Mathlib.Omega.{arith}
-use lib.ListN.{length, length-append}
+use Rattle.std.proofs.Common.{ℕ, ◌+◌, ◌*◌, ◌≤◌, ◌<◌, ◌≡◌, refl, sym, ap, ◌∙◌, subst, Float, Option, Some, None, List, [], ◌∷◌, ◌++◌}
+use Rattle.std.proofs.Common.{append_assoc, append-nil, arith, length, length-append}
 use Rattle.little_endian.specs.Bytes.{le16}
 use Rattle.records.specs.Records.{record_length, flatten}
 use Rattle.relisting.specs.Steps.{sweep}

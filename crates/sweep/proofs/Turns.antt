@@ -1,10 +1,6 @@
 -- Laws of the loop over resweeps, and of a main sweep and the resweeps behind it. Assumes nothing.
-use Prim.Native.Nat.{ℕ, ◌+◌, ◌*◌, ◌-◌, ◌≤◌, ◌<◌}
-use mathlib.Core.Path.{◌≡◌, sym, ap, ◌∙◌, subst}
-use mathlib.Core.List.{List, ◌++◌}
-use native.Mathlib.Omega.{arith}
-use native.Mathlib.Nat.{sub-zero}
-use lib.ListN.{length, replicate, length-append}
+use Rattle.std.proofs.Common.{ℕ, ◌+◌, ◌*◌, ◌-◌, ◌≤◌, ◌<◌, ◌≡◌, sym, ap, ◌∙◌, subst, List, ◌++◌, arith, length, replicate, length-append}
+use Rattle.std.proofs.Math.Nat.{sub-zero}
 use Rattle.records.proofs.Rest.{sub_turn}
 use Rattle.records.specs.Records.{flatten}
 use Rattle.relisting.specs.Steps.{sweep, sweeps}

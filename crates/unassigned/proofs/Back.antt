@@ -1,18 +1,11 @@
 -- What is put back as it was read leaves the same bytes, also after other puts beside it: the positions of places that are skipped, and the gradients that a distance row leaves. Assumes nothing.
-use Prim.Native.Nat.{ℕ, suc, ◌+◌, ◌<◌, ◌≤◌, ◌/◌, ◌%◌}
-use mathlib.Core.Path.{◌≡◌, refl, sym, ap, ◌∙◌}
-use mathlib.Core.Logic.{inr}
-use mathlib.Core.Bool.{Bool, true, false, cond, not}
-use mathlib.Core.List.{List}
-use native.Mathlib.Omega.{arith}
-use lib.Dec.{eqb}
-use lib.ListN.{get_or, set}
-use lib.Ieee.{Float, binary32, of_bits}
+use Rattle.std.proofs.Common.{ℕ, suc, ◌+◌, ◌<◌, ◌≤◌, ◌/◌, ◌%◌, ◌≡◌, refl, sym, ap, ◌∙◌, inr, Bool, true, false, cond, not, List, arith, eqb}
+use Rattle.std.proofs.Common.{get_or, set, Float, Option, Some, None, is_some}
+use Rattle.std.specs.Float.Ieee.{binary32, of_bits}
 use Rattle.little_endian.specs.Bytes.{le32, f32_at, is_finite}
 use Rattle.little_endian.proofs.Parts.{Bytes}
 use Rattle.vector.specs.declared.Vec3.{Vec3}
 use Rattle.vector.specs.declared.Four.{Four}
-use Rattle.std.specs.Prelude.{Option, Some, None, is_some}
 use Rattle.places.specs.Places.{Holds, held_or, refreshed}
 use Rattle.gradients.specs.Kind.{kind_of}
 use Rattle.gradients.specs.Gradients.{distance_gradients, compute_gradients}

@@ -1,8 +1,5 @@
 -- The floats of a good row are finite: its positions, and a scalar row's gradients. Assumes nothing.
-use Prim.Native.Nat.{ℕ, ◌+◌, ◌*◌, ◌≤◌}
-use mathlib.Core.Path.{◌≡◌, ap, ◌∙◌}
-use mathlib.Core.List.{List}
-use native.Mathlib.Omega.{arith}
+use Rattle.std.proofs.Common.{ℕ, ◌+◌, ◌*◌, ◌≤◌, ◌≡◌, ap, ◌∙◌, List, arith}
 use Rattle.little_endian.specs.Bytes.{le16, le32, f32_at, is_finite}
 use Rattle.records.specs.declared.Due.TheVariants.{Row}
 use Rattle.records.specs.Layout as at

@@ -1,10 +1,6 @@
 -- THE TWO STATEMENTS OF A WHOLE RUN, PROVED. Each row is updated at most once, in the main sweep and from the bytes that check accepted, whose floats are finite: that is all that the law of an update asks for. Assumes nothing.
-use Prim.Native.Nat.{ℕ, zero, suc, ◌+◌, ◌*◌, ◌<◌}
-use mathlib.Core.Path.{◌≡◌, sym, ap, ◌∙◌, subst}
-use mathlib.Core.List.{List, [], ◌∷◌}
-use native.Mathlib.Omega.{arith}
-use native.Mathlib.Nat.{not-suc-le-zero, le_of_suc-le-suc}
-use lib.ListN.{length, get_or, take, drop}
+use Rattle.std.proofs.Common.{ℕ, zero, suc, ◌+◌, ◌*◌, ◌<◌, ◌≡◌, sym, ap, ◌∙◌, subst, List, [], ◌∷◌, arith, not-suc-le-zero}
+use Rattle.std.proofs.Common.{le_of_suc-le-suc, length, get_or, take, drop}
 use Rattle.little_endian.specs.Bytes.{le16}
 use Rattle.little_endian.proofs.Parts.{Bytes}
 use Rattle.relisting.specs.Steps.{sweep}

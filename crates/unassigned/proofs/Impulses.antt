@@ -1,11 +1,5 @@
 -- A warm start and a solve leave every byte that they do not assign. Assumes nothing.
-use Prim.Native.Nat.{ℕ}
-use mathlib.Core.Path.{◌≡◌, ◌∙◌}
-use mathlib.Core.Bool.{Bool, true, false, cond}
-use mathlib.Core.List.{List}
-use lib.Dec.{eqb}
-use lib.ListN.{get_or}
-use lib.Ieee.{Float}
+use Rattle.std.proofs.Common.{ℕ, ◌≡◌, ◌∙◌, Bool, true, false, cond, List, eqb, get_or, Float}
 use Rattle.little_endian.specs.Bytes.{le16}
 use Rattle.places.specs.Places.{Holds}
 use Rattle.cell.specs.declared.Impulses.{Impulses}

@@ -1,17 +1,9 @@
 -- The position of a place that names nobody is among the bytes that no phase assigns. Assumes nothing.
-use Prim.Native.Nat.{ℕ, ◌+◌, ◌*◌, ◌<◌}
-use mathlib.Core.Path.{◌≡◌, sym, ap, subst}
-use mathlib.Core.Logic.{inl, inr}
-use mathlib.Core.Bool.{Bool, true, false, cond, not}
-use mathlib.Core.List.{List, [], ◌∷◌, ◌++◌}
-use native.Mathlib.Omega.{arith}
-use native.Mathlib.Decide.{dec_lt}
-use lib.Dec.{eqb}
-use lib.ListN.{get_or}
-use borrow.Author.Tests.{eq-eqb}
+use Rattle.std.proofs.Common.{ℕ, ◌+◌, ◌*◌, ◌<◌, ◌≡◌, sym, ap, subst, inl, inr, Bool, true, false, cond, not, List, [], ◌∷◌, ◌++◌, arith}
+use Rattle.std.proofs.Common.{eqb, get_or, eq-eqb, is_some, Some, None}
+use Rattle.std.proofs.Math.Decide.{dec_lt}
 use Rattle.little_endian.specs.Bytes.{le16}
 use Rattle.relisting.specs.Steps.{fetch}
-use Rattle.std.specs.Prelude.{is_some, Some, None}
 use Rattle.std.proofs.Math.Option.{Option}
 use Rattle.places.specs.Places.{Ids, Holds}
 use Rattle.records.specs.Layout as at

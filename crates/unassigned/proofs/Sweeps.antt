@@ -1,10 +1,5 @@
 -- A main step and the resweeps leave every byte of a row that they do not assign. Assumes nothing.
-use Prim.Native.Nat.{ℕ, zero, suc}
-use mathlib.Core.Path.{◌≡◌, refl, sym, ap, ◌∙◌, subst}
-use mathlib.Core.Bool.{Bool, true, false}
-use mathlib.Core.List.{List, [], ◌∷◌}
-use lib.ListN.{get_or, replicate}
-use lib.Ieee.{Float}
+use Rattle.std.proofs.Common.{ℕ, zero, suc, ◌≡◌, refl, sym, ap, ◌∙◌, subst, Bool, true, false, List, [], ◌∷◌, get_or, replicate, Float}
 use Rattle.little_endian.specs.Bytes.{le16}
 use Rattle.little_endian.proofs.Parts.{Bytes}
 use Rattle.relisting.specs.Steps.{pick, nothing, sweep, sweeps}

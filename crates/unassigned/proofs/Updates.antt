@@ -1,14 +1,5 @@
 -- An update leaves every byte that it does not assign. Assumes nothing.
-use Prim.Native.Nat.{ℕ}
-use mathlib.Core.Path.{◌≡◌, refl, ◌∙◌}
-use mathlib.Core.Logic.{inr}
-use mathlib.Core.Bool.{Bool, true, false, cond, not}
-use mathlib.Core.List.{List}
-use native.Mathlib.Omega.{arith}
-use lib.Dec.{eqb}
-use lib.ListN.{get_or}
-use lib.Ieee.{Float}
-use borrow.Author.Tests.{eqb-true}
+use Rattle.std.proofs.Common.{ℕ, ◌≡◌, refl, ◌∙◌, inr, Bool, true, false, cond, not, List, arith, eqb, get_or, Float, eqb-true}
 use Rattle.little_endian.specs.Bytes.{le16}
 use Rattle.little_endian.proofs.Parts.{Bytes}
 use Rattle.places.specs.Places.{Holds}

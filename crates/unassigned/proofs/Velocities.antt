@@ -1,10 +1,5 @@
 -- A run leaves every byte of a point but those of its velocity. Assumes nothing.
-use Prim.Native.Nat.{ℕ, zero, suc}
-use mathlib.Core.Path.{◌≡◌, refl, ap, ◌∙◌}
-use mathlib.Core.Bool.{Bool, true, false}
-use mathlib.Core.List.{List, [], ◌∷◌}
-use lib.ListN.{get_or, replicate}
-use lib.Ieee.{Float}
+use Rattle.std.proofs.Common.{ℕ, zero, suc, ◌≡◌, refl, ap, ◌∙◌, Bool, true, false, List, [], ◌∷◌, get_or, replicate, Float}
 use Rattle.relisting.specs.Steps.{alter, alters, pick, nothing, sweep, sweeps}
 use Rattle.vector.specs.Vector.{sub}
 use Rattle.vector.specs.declared.Vec3.{Vec3}

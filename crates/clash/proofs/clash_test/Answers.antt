@@ -1,6 +1,5 @@
 -- `clash::clash_test` meets its contract. The marks say which points the rows so far name, and in which colour. Assumes nothing.
-use native.Mathlib.Omega.{arith}
-use borrow.Author.Rules.{rules}
+use Rattle.std.proofs.Common.{arith, rules}
 use Rattle.clash.proofs.Turns.{begins, whole, long, refuses, again, ends}
 use Rattle.clash.proofs.clash_test.Goals as goal
 

@@ -1,5 +1,5 @@
 -- `clash::mark_row` meets its contract. Assumes nothing.
-use native.Mathlib.Omega.{arith}
+use Rattle.std.proofs.Common.{arith}
 use Rattle.clash.proofs.Rows.{none_yet, one_more, all_marked}
 use Rattle.clash.proofs.mark_row.Goals as goal
 

@@ -1,4 +1,4 @@
-use Prim.Native.Nat.{◌+◌}
+use Rattle.std.specs.Prelude.{◌+◌}
 use Rattle.clash.proofs.Rows.{Marking}
 use Rattle.clash.proofs.mark_row.Given as goal
 

@@ -1,6 +1,6 @@
 -- `floats::of_written` meets its contract. Of the patterns of a NaN it meets one alone. Assumes nothing.
-use mathlib.Core.Path.{sym}
-use lib.Ieee.{div, of_bits}
+use Rattle.std.proofs.Common.{sym}
+use Rattle.std.specs.Float.Ieee.{div, of_bits}
 use Rattle.floats.proofs.Written.{the_nan, no_nan}
 use Rattle.floats.proofs.of_written.Goals as goal
 

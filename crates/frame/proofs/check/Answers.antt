@@ -1,6 +1,5 @@
 -- `frame::check` meets its contract. Assumes nothing.
-use native.Mathlib.Omega.{arith}
-use mathlib.Core.Path.{◌∙◌, sym}
+use Rattle.std.proofs.Common.{arith, ◌∙◌, sym}
 use Rattle.records.proofs.Firsts.{outcome_passed}
 use Rattle.frame.proofs.Answered.{passed_of, head_long, few_points}
 use Rattle.frame.proofs.check.Goals as goal

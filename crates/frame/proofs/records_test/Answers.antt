@@ -1,6 +1,5 @@
 -- `frame::records_test` meets its contract. Assumes nothing.
-use native.Mathlib.Omega.{arith}
-use borrow.Author.Rules.{rules}
+use Rattle.std.proofs.Common.{arith, rules}
 use Rattle.frame.proofs.Scans.{begins, whole, long, colour_found, refuses, again, all_passed, ends}
 use Rattle.frame.proofs.records_test.Goals as goal
 

@@ -1,6 +1,5 @@
 -- `little_endian::put_u32` meets its contract. Assumes nothing.
-use mathlib.Core.Path.{sym, ◌∙◌}
-use mathlib.Core.List.{append_assoc}
+use Rattle.std.proofs.Common.{sym, ◌∙◌, append_assoc}
 use Rattle.std.proofs.lemmas.List.Edits.{sets-eq}
 use Rattle.little_endian.specs.Bytes.{bytes4}
 use Rattle.little_endian.proofs.Parts.{lend}

@@ -1,5 +1,5 @@
 -- `records::record_test` meets its contract. Assumes nothing.
-use mathlib.Core.Path.{sym, ap, ◌∙◌}
+use Rattle.std.proofs.Common.{sym, ap, ◌∙◌}
 use Rattle.little_endian.specs.Bytes.{le16}
 use Rattle.records.proofs.Shapes.{shaped_of, kind_record}
 use Rattle.records.proofs.record_test.Goals as goal

@@ -1,5 +1,5 @@
 -- `row::counted` meets its contract. Assumes nothing.
-use borrow.Author.Tests.{lt-ltb, le-ltb}
+use Rattle.std.proofs.Common.{lt-ltb, le-ltb}
 use Rattle.row.proofs.counted.Goals as goal
 
 pub returns-then-k-count : goal.returns-then-k-count

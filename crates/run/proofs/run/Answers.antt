@@ -1,6 +1,5 @@
 -- `run::run` meets its contract. Assumes nothing.
-use native.Mathlib.Omega.{arith}
-use borrow.Author.Rules.{rules}
+use Rattle.std.proofs.Common.{arith, rules}
 use Rattle.run.proofs.Runs.{long, ready, calm, run_is, not_run}
 use Rattle.run.proofs.run.Goals as goal
 

@@ -1,5 +1,5 @@
 -- `sweep::row_at` meets its contract. By its kind or by its length, the part is the record. Assumes nothing.
-use native.Mathlib.Omega.{arith}
+use Rattle.std.proofs.Common.{arith}
 use Rattle.sweep.proofs.Apart.{scalar_said, row_found}
 use Rattle.sweep.proofs.row_at.Goals as goal
 

@@ -1,6 +1,6 @@
 -- `points::Points::point` meets its contract. Assumes nothing.
 use Rattle.std.proofs.Common.{ap, ◌∙◌, ℕ, ◌+◌, ◌-◌, take, drop, length-drop, length-take, arith}
-use native.Mathlib.Nat.{add-sub_cancel_left}
+use Rattle.std.proofs.Math.Nat.{add-sub_cancel_left}
 use Rattle.points.proofs.Points.point.Goals as goal
 
 pub returns : goal.returns

@@ -1,6 +1,5 @@
 -- `points::velocities::take_at` meets its contract: the type of a value says that it is three f32. Assumes nothing.
-use Rattle.std.proofs.Common.{sym, subst, arith}
-use lib.Dec.{T}
+use Rattle.std.proofs.Common.{sym, subst, arith, T}
 use Rattle.points.specs.Apart.{Fit3}
 use Rattle.points.proofs.velocities.take_at.Goals as goal
 

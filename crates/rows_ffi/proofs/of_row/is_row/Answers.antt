@@ -1,6 +1,5 @@
 -- `rows_ffi::of_row::is_row` meets its contract. Assumes nothing.
-use native.Mathlib.Omega.{arith}
-use mathlib.Core.Path.{refl, sym, ◌∙◌}
+use Rattle.std.proofs.Common.{arith, refl, sym, ◌∙◌}
 use Rattle.row.proofs.ByKind.{long_row}
 use Rattle.rows_ffi.specs.Record.{is_row}
 use Rattle.rows_ffi.proofs.Alone.{tests}

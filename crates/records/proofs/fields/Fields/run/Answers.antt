@@ -1,6 +1,5 @@
 -- `records::fields::Fields::run` meets its contract: it stops at the first refusal of the run. Assumes nothing.
-use native.Mathlib.Omega.{arith}
-use borrow.Author.Rules.{rules}
+use Rattle.std.proofs.Common.{arith, rules}
 use Rattle.records.proofs.Runs.{begins, again, refuses, ends}
 use Rattle.records.proofs.fields.Fields.run.Goals as goal
 

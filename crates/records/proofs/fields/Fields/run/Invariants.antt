@@ -1,5 +1,4 @@
-use Prim.Native.Nat.{ℕ}
-use mathlib.Core.List.{List}
+use Rattle.std.specs.Prelude.{ℕ, List}
 use Rattle.records.specs.Answers.{Test}
 use Rattle.records.specs.Outcomes.{Tests}
 use Rattle.records.proofs.Runs.{Running}

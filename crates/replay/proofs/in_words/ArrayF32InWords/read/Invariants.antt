@@ -1,5 +1,5 @@
-use Rattle.std.proofs.Common.{◌+◌}
-use lib.Ieee.{nan}
+use Rattle.std.specs.Prelude.{◌+◌}
+use Rattle.std.specs.Float.Ieee.{nan}
 use Rattle.loops.specs.Fill.{Filled}
 use Rattle.replay.specs.Words.{float}
 use Rattle.replay.proofs.in_words.ArrayF32InWords.read.Given as goal
