@@ -1,7 +1,8 @@
 -- What is counted of a file of records, and what of several files. What a file holds no contract can say: it is some list of bytes. Assumes nothing.
-use Rattle.std.specs.Prelude.{◌≡◌, refl, ℕ, ◌+◌, ◌*◌, ◌/◌, ◌%◌, ◌^◌, ◌<◌, ◌≤◌, Bool, true, false, cond, List, [], ◌∷◌, length}
-use Rattle.std.proofs.Common.{add-mul, add-one, arith}
-use Rattle.std.proofs.Math.Nat.{div-mul-le_self, lt-div-mul-add, mul-le-mul_right}
+use Rattle.std.specs.Prelude.{◌≡◌, refl, ℕ, ◌+◌, ◌-◌, ◌*◌, ◌/◌, ◌%◌, ◌^◌, ◌<◌, ◌≤◌, Bool, true, false, cond, List, [], ◌∷◌, ◌++◌, length, drop}
+use Rattle.std.proofs.Common.{◌∙◌, ap, sym, add-mul, add-one, arith}
+use Rattle.std.proofs.Math.Nat.{div-mul-le_self, lt-div-mul-add, mul-le-mul_right, mul-le-mul_left, div-eq_of_lt-le, zero-mul}
+use Rattle.std.proofs.lemmas.List.{length-drop, length-append, drop-drop, drop_at}
 use Rattle.loops.specs.Loops.{up_to}
 use Rattle.replay.specs.Words.{words_at}
 use Rattle.replay.specs.declared.tally.Tally.{Tally}
@@ -57,6 +58,35 @@ pub record Walked (agrees : List ℕ → Bool) (s : List ℕ) (size i : ℕ) (r 
 -- record i of so many bytes ends within s
 pub fits : (i bytes : ℕ) (s : List ℕ) → i < length s / bytes → i * bytes + bytes ≤ length s
 fits i bytes s h = omega (arith, mul-le-mul_right {m = i + 1} {n = length s / bytes} bytes (omega arith), div-mul-le_self (length s) bytes, add-mul i 1 bytes)
+
+-- rest is what is left of s behind the first i chunks of so many bytes
+pub record Behind (s : List ℕ) (bytes i : ℕ) (rest : List ℕ) : Type 0 where
+  pub left : drop (i * bytes) s ≡ rest
+  pub inside : i * bytes ≤ length s
+
+module _ {s : List ℕ} {bytes : ℕ} where
+  pub none_taken : Behind s bytes 0 s
+  none_taken = record { left = ap (λ n. drop n s) (zero-mul bytes); inside = omega arith }
+
+  pub one_taken : {i : ℕ} {rest : List ℕ} (part more : List ℕ) → Behind s bytes i rest → rest ≡ part ++ more → length part ≡ bytes → Behind s bytes (i + 1) more
+  one_taken {i} {rest} part more b e long =
+      let after : i * bytes + bytes ≡ (i + 1) * bytes = omega (arith, add-mul i 1 bytes) in
+      let counted : length rest ≡ length s - i * bytes = ap length (sym b.left) ∙ length-drop (i * bytes) s in
+      let parts : length rest ≡ length part + length more = ap length e ∙ length-append part more in
+      record {
+        left =
+            ap (λ n. drop n s) (sym after) ∙ sym (drop-drop bytes (i * bytes) s) ∙ ap (drop bytes) (b.left ∙ e)
+            ∙ drop_at part more bytes long;
+        inside = omega (arith, after, counted, parts, long, b.inside);
+      }
+
+  pub few_taken : {i : ℕ} {rest : List ℕ} → 1 ≤ bytes → Behind s bytes i rest → i ≤ length s
+  few_taken {i} h b = omega (arith, b.inside, mul-le-mul_left {m = 1} {n = bytes} i h)
+
+  pub all_taken : {i : ℕ} {rest : List ℕ} → Behind s bytes i rest → length rest < bytes → i ≡ length s / bytes
+  all_taken {i} {rest} b short =
+      let counted : length rest ≡ length s - i * bytes = ap length (sym b.left) ∙ length-drop (i * bytes) s in
+      sym (div-eq_of_lt-le bytes b.inside (omega (arith, counted, short, b.inside, add-mul i 1 bytes)))
 
 module _ {agrees : List ℕ → Bool} {s : List ℕ} {size : ℕ} where
   pub begins : Walked agrees s size 0 (record { records = 0; differ = 0 })

@@ -1,9 +1,11 @@
 -- Values in the words of a record, from word k on: a float is its bits, a matrix goes column by column. Definitions only. Assumes nothing.
-use Rattle.std.specs.Prelude.{◌≡◌, refl, ℕ, ◌+◌, ◌*◌, Bool, true, false, ◌&&◌, List, [], ◌∷◌, replicate, ◌==◌, from_bits, slice_index, slice_set, to_bits, Float}
+use Rattle.std.specs.Prelude.{◌≡◌, refl, ℕ, ◌+◌, ◌<◌, ◌*◌, ◌/◌, ◌≤◌, Bool, true, false, ◌&&◌, List, [], ◌∷◌, length, get_or, drop, ◌++◌, ◌==◌, from_bits, slice_index, to_bits, Float}
 use Rattle.std.specs.Float.{binary32}
-use Rattle.std.proofs.Common.{arith}
+use Rattle.std.proofs.Common.{◌∙◌, ap, sym, arith, ext_get_or}
+use Rattle.std.proofs.Math.Nat.{lt-div-mul-add, div-eq_of_lt-le}
+use Rattle.std.proofs.lemmas.List.{get_or_append_left, get_or-drop}
 use Rattle.little_endian.specs.Bytes.{le32}
-use Rattle.loops.specs.Fill.{tabulate}
+use Rattle.loops.specs.Fill.{tabulate, get_d_tabulate, length-tab_from}
 use Rattle.loops.specs.Loops.{up_to}
 use Rattle.real.specs.Float.{at}
 use Rattle.vector.specs.declared.Vec3.{Vec3}
@@ -11,9 +13,40 @@ use Rattle.vector.specs.declared.Mat3.{Mat3}
 use Rattle.vector.specs.declared.Quat.{Quat}
 use Rattle.vector.specs.declared.Four.{Four}
 
--- a record: the `size` words of the bytes from `from` on, and zeros up to 400
+-- a record: the `size` words of the bytes from `from` on
 unfoldable pub words_at : List ℕ → ℕ → ℕ → List ℕ
-words_at s from size = up_to size (λ k w. slice_set w k (le32 s (from + 4 * k))) (replicate 400 0)
+words_at s from size = tabulate size (λ k. le32 s (from + 4 * k))
+
+-- the words of a record that the bytes are
+abbrev pub words_of : List ℕ → List ℕ
+words_of s = words_at s 0 (length s / 4)
+
+-- one of them
+pub word_at : (s : List ℕ) (k : ℕ) → 4 * (k + 1) ≤ length s → slice_index (words_of s) k ≡ le32 s (4 * k)
+unfolding words_at
+word_at s k h = get_d_tabulate 0 (length s / 4) (λ k. le32 s (0 + 4 * k)) k (omega (arith, lt-div-mul-add {a = length s} {b = 4} (omega arith))) ∙ ap (le32 s) (omega arith)
+
+-- the same list, where each element is
+tab_same : {A : Type 0} (d : A) (n : ℕ) (f g : ℕ → A) → ((k : ℕ) → k < n → f k ≡ g k) → tabulate n f ≡ tabulate n g
+tab_same {A = A} d n f g h =
+    let long : (f : ℕ → A) → length (tabulate n f) ≡ n = λ f. length-tab_from 0 n f in
+    ext_get_or d (tabulate n f) (tabulate n g) (long f ∙ sym (long g))
+    (λ k b. let l : k < n = rw (long f) at b in get_d_tabulate d n f k l ∙ h k l ∙ sym (get_d_tabulate d n g k l))
+
+-- the words of a part of some bytes
+pub words_of_part : (s part rest : List ℕ) (from size : ℕ) → drop from s ≡ part ++ rest → length part ≡ 4 * size → words_of part ≡ words_at s from size
+unfolding words_at le32
+words_of_part s part rest from size e long =
+    let count : length part / 4 ≡ size = div-eq_of_lt-le 4 (omega (arith, long)) (omega (arith, long)) in
+    let byte : (j : ℕ) → j < length part → get_or part j 0 ≡ get_or s (from + j) 0 = λ j h.
+    sym (get_or_append_left part rest 0 j h) ∙ ap (λ l. get_or l j 0) (sym e) ∙ get_or-drop from s j 0 in
+    rw count
+    (tab_same 0 size _ _ (λ k h.
+    let at : (i : ℕ) → i < 4 → get_or part (0 + 4 * k + i) 0 ≡ get_or s (from + 4 * k + i) 0 = λ i l.
+    byte (0 + 4 * k + i) (omega (arith, long, h, l)) ∙ ap (λ n. get_or s n 0) (omega arith) in
+    let first : get_or part (0 + 4 * k) 0 ≡ get_or s (from + 4 * k) 0 =
+    byte (0 + 4 * k) (omega (arith, long, h)) ∙ ap (λ n. get_or s n 0) (omega arith) in
+    rw (first, at 1 (omega arith), at 2 (omega arith), at 3 (omega arith)) refl))
 
 -- ---- what the words from k on say
 

@@ -1,8 +1,10 @@
-// The values that stand in a record's words: a float is its bits, a matrix goes column by column. They are compared bit for bit: a NaN's word is 0x7FC00000.
-ghost use Rattle.std.specs.Prelude.{◌≡◌, ℕ, ◌+◌, ◌<◌, ◌≤◌, ◌&&◌, Bool, List};
+// The values that stand in a record's words: a float is its bits, a matrix goes column by column. They are compared bit for bit:
+// a NaN's word is 0x7FC00000.
+ghost use Rattle.std.specs.Prelude.{◌≡◌, ℕ, ◌+◌, ◌*◌, ◌<◌, ◌≤◌, ◌&&◌, Bool, List, length, slice_index};
+ghost use Rattle.real.specs.Float.{at};
 ghost use Rattle.replay.specs.Words as spec;
 
-use crate::Record;
+use std::array::from_fn;
 use vector::{Four, Mat3, Quat, Vec3};
 
 pub trait InWords: Drop {
@@ -15,14 +17,22 @@ pub trait InWords: Drop {
     const WORDS: usize;
 
     // What the words from k on say.
-    fn read(w: &Record, k: usize) -> Self
-        requires { k + WORDS ≤ 400 }
-        ensures { result ≡ value_of w.now.words k };
+    fn read(bytes: &[u8], k: usize) -> Self
+        requires { 4 * (k + WORDS) ≤ length bytes.now }
+        ensures { result ≡ value_of (spec.words_of bytes.now) k };
 
     // Whether it is what they say.
-    fn is_at(&self, w: &Record, k: usize) -> bool
-        requires { k + WORDS ≤ 400 }
-        ensures { result ≡ is_stored w.now.words k self.now };
+    fn is_at(&self, bytes: &[u8], k: usize) -> bool
+        requires { 4 * (k + WORDS) ≤ length bytes.now }
+        ensures { result ≡ is_stored (spec.words_of bytes.now) k self.now };
+}
+
+#[tactic(auto, using(crate::specs::Words::word_at))]
+fn word(bytes: &[u8], k: usize) -> u32
+    requires { 4 * (k + 1) ≤ length bytes.now }
+    ensures { result ≡ slice_index (spec.words_of bytes.now) k }
+{
+    little_endian::get_u32(bytes, 4 * k)
 }
 
 impl InWords for f32 {
@@ -34,12 +44,12 @@ impl InWords for f32 {
 
     const WORDS: usize = 1;
 
-    fn read(w: &Record, k: usize) -> f32 {
-        little_endian::f32_of(w.words[k])
+    fn read(bytes: &[u8], k: usize) -> f32 {
+        little_endian::f32_of(word(bytes, k))
     }
 
-    fn is_at(&self, w: &Record, k: usize) -> bool {
-        w.words[k] == little_endian::bits_of(*self)
+    fn is_at(&self, bytes: &[u8], k: usize) -> bool {
+        word(bytes, k) == little_endian::bits_of(*self)
     }
 }
 
@@ -52,20 +62,18 @@ impl<const N: usize> InWords for [f32; N] {
 
     const WORDS: usize = N;
 
-    fn read(w: &Record, k: usize) -> [f32; N] {
-        let mut values = [0.0; N];
-        for i in 0..N {
-            values[i] = w.at(k + i);
-        }
-        values
+    #[tactic(auto, unfolding(crate::specs::Words::floats), using(loops::specs::Fill::tabulated))]
+    fn read(bytes: &[u8], k: usize) -> [f32; N] {
+        from_fn(|i| f32::read(bytes, k + i))
     }
 
-    fn is_at(&self, w: &Record, k: usize) -> bool {
-        let mut same = true;
-        for i in 0..N {
-            same &= w.holds(k + i, self[i]);
-        }
-        same
+    fn is_at(&self, bytes: &[u8], k: usize) -> bool {
+        (0..N).all(
+            |i: usize| -> bool
+                requires { (i < N) × (4 * (k + i + 1) ≤ length bytes.now) }
+                ensures { result ≡ spec.float_is (spec.words_of bytes.entry.now) (k + i) (at self.entry.now i) }
+            { self[i].is_at(bytes, k + i) },
+        )
     }
 }
 
@@ -78,16 +86,16 @@ impl InWords for Vec3 {
 
     const WORDS: usize = 3;
 
-    fn read(w: &Record, k: usize) -> Vec3 {
+    fn read(bytes: &[u8], k: usize) -> Vec3 {
         Vec3 {
-            x: w.at(k),
-            y: w.at(k + 1),
-            z: w.at(k + 2),
+            x: f32::read(bytes, k),
+            y: f32::read(bytes, k + 1),
+            z: f32::read(bytes, k + 2),
         }
     }
 
-    fn is_at(&self, w: &Record, k: usize) -> bool {
-        w.holds(k, self.x) && w.holds(k + 1, self.y) && w.holds(k + 2, self.z)
+    fn is_at(&self, bytes: &[u8], k: usize) -> bool {
+        self.x.is_at(bytes, k) && self.y.is_at(bytes, k + 1) && self.z.is_at(bytes, k + 2)
     }
 }
 
@@ -100,20 +108,20 @@ impl InWords for Quat {
 
     const WORDS: usize = 4;
 
-    fn read(w: &Record, k: usize) -> Quat {
+    fn read(bytes: &[u8], k: usize) -> Quat {
         Quat {
-            x: w.at(k),
-            y: w.at(k + 1),
-            z: w.at(k + 2),
-            w: w.at(k + 3),
+            x: f32::read(bytes, k),
+            y: f32::read(bytes, k + 1),
+            z: f32::read(bytes, k + 2),
+            w: f32::read(bytes, k + 3),
         }
     }
 
-    fn is_at(&self, w: &Record, k: usize) -> bool {
-        w.holds(k, self.x)
-            && w.holds(k + 1, self.y)
-            && w.holds(k + 2, self.z)
-            && w.holds(k + 3, self.w)
+    fn is_at(&self, bytes: &[u8], k: usize) -> bool {
+        self.x.is_at(bytes, k)
+            && self.y.is_at(bytes, k + 1)
+            && self.z.is_at(bytes, k + 2)
+            && self.w.is_at(bytes, k + 3)
     }
 }
 
@@ -126,16 +134,16 @@ impl InWords for Mat3 {
 
     const WORDS: usize = 9;
 
-    fn read(w: &Record, k: usize) -> Mat3 {
+    fn read(bytes: &[u8], k: usize) -> Mat3 {
         Mat3 {
-            x: w.at(k),
-            y: w.at(k + 3),
-            z: w.at(k + 6),
+            x: Vec3::read(bytes, k),
+            y: Vec3::read(bytes, k + 3),
+            z: Vec3::read(bytes, k + 6),
         }
     }
 
-    fn is_at(&self, w: &Record, k: usize) -> bool {
-        w.holds(k, self.x) && w.holds(k + 3, self.y) && w.holds(k + 6, self.z)
+    fn is_at(&self, bytes: &[u8], k: usize) -> bool {
+        self.x.is_at(bytes, k) && self.y.is_at(bytes, k + 3) && self.z.is_at(bytes, k + 6)
     }
 }
 
@@ -148,19 +156,19 @@ impl InWords for Four<Vec3> {
 
     const WORDS: usize = 12;
 
-    fn read(w: &Record, k: usize) -> Four<Vec3> {
+    fn read(bytes: &[u8], k: usize) -> Four<Vec3> {
         Four {
-            a: w.at(k),
-            b: w.at(k + 3),
-            c: w.at(k + 6),
-            d: w.at(k + 9),
+            a: Vec3::read(bytes, k),
+            b: Vec3::read(bytes, k + 3),
+            c: Vec3::read(bytes, k + 6),
+            d: Vec3::read(bytes, k + 9),
         }
     }
 
-    fn is_at(&self, w: &Record, k: usize) -> bool {
-        w.holds(k, self.a)
-            && w.holds(k + 3, self.b)
-            && w.holds(k + 6, self.c)
-            && w.holds(k + 9, self.d)
+    fn is_at(&self, bytes: &[u8], k: usize) -> bool {
+        self.a.is_at(bytes, k)
+            && self.b.is_at(bytes, k + 3)
+            && self.c.is_at(bytes, k + 6)
+            && self.d.is_at(bytes, k + 9)
     }
 }

@@ -1,42 +1,29 @@
 // The words of a record.
 ghost use Rattle.std.specs.Prelude.{◌≡◌, ℕ, ◌+◌, ◌*◌, ◌≤◌, length};
+ghost use Rattle.replay.specs.Words.{words_of};
 
 use crate::InWords;
 
-// At most 400 words, and zeros after them.
-#[derive(Drop)]
-pub struct Record {
-    pub words: [u32; 400],
+// A record's bytes: a value is read from its words where it is asked for.
+#[derive(Clone, Copy)]
+pub struct Record<'a> {
+    pub bytes: &'a [u8],
 }
 
-impl Record {
-    ghost use Rattle.replay.specs.Words.{words_at};
-
-    // The `size` words from byte `from` on.
-    pub fn read(s: &[u8], from: usize, size: usize) -> Record
-        requires { (from + 4 * size ≤ length s.now) × (size ≤ 400) }
-        ensures { result.words ≡ words_at s.now from size }
-    {
-        let mut words = [0; 400];
-        for k in 0..size {
-            words[k] = little_endian::get_u32(s, from + 4 * k);
-        }
-        Record { words }
-    }
-
+impl Record<'_> {
     // The value that stands from word k on.
-    pub fn at<T: InWords>(&self, k: usize) -> T
-        requires { k + T.WORDS ≤ 400 }
-        ensures { result ≡ T.value_of self.now.words k }
+    pub fn at<T: InWords>(self, k: usize) -> T
+        requires { 4 * (k + T.WORDS) ≤ length self.bytes.now }
+        ensures { result ≡ T.value_of (words_of self.entry.bytes.now) k }
     {
-        T::read(self, k)
+        T::read(self.bytes, k)
     }
 
     // Whether x is what stands from word k on.
-    pub fn holds<T: InWords>(&self, k: usize, x: T) -> bool
-        requires { k + T.WORDS ≤ 400 }
-        ensures { result ≡ T.is_stored self.now.words k x }
+    pub fn holds<T: InWords>(self, k: usize, x: T) -> bool
+        requires { 4 * (k + T.WORDS) ≤ length self.bytes.now }
+        ensures { result ≡ T.is_stored (words_of self.entry.bytes.now) k x }
     {
-        x.is_at(self, k)
+        x.is_at(self.bytes, k)
     }
 }

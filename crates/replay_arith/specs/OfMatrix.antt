@@ -1,5 +1,5 @@
 -- The records of the functions of the crate `vector` on matrices and quaternions: the answer to a record's first words stands after them. Definitions only. Assumes nothing.
-use Rattle.std.specs.Prelude.{ℕ, Bool, List, [], ◌∷◌}
+use Rattle.std.specs.Prelude.{List, [], ◌∷◌}
 use Rattle.vector.specs.Matrix.{mul_vec, mul_mat, add_mat, sub_mat, scale_mat, transpose, determinant}
 use Rattle.vector.specs.Quaternion.{product, normalise, to_matrix, from_axis_angle}
 use Rattle.replay.specs.Words.{float, vec3, quat, mat3, float_is, vec3_is, quat_is, mat3_is}

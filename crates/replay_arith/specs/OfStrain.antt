@@ -1,5 +1,5 @@
 -- The records of the functions of the crates `strain` and `inverse`: the answer to a record's first words stands after them. Definitions only. Assumes nothing.
-use Rattle.std.specs.Prelude.{ℕ, Bool, List, [], ◌∷◌}
+use Rattle.std.specs.Prelude.{List, [], ◌∷◌}
 use Rattle.strain.specs.Six.{add6, sub6, scale6, component_mul6, dot6}
 use Rattle.strain.specs.Matrix.{mat_vec, mat_mul, add36, scale36, ger, from_diagonal, identity6}
 use Rattle.inverse.specs.Inverse.{try_inverse}

@@ -1,5 +1,5 @@
 -- The records of the functions of the crate `vector` on vectors: the answer to a record's first words stands after them. Definitions only. Assumes nothing.
-use Rattle.std.specs.Prelude.{ℕ, Bool, List, [], ◌∷◌}
+use Rattle.std.specs.Prelude.{List, [], ◌∷◌}
 use Rattle.vector.specs.Vector as v
 use Rattle.replay.specs.Words.{float, vec3, float_is, vec3_is}
 use Rattle.replay.specs.Tallies.{File}

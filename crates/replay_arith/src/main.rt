@@ -1,5 +1,5 @@
-// Replays the oracle's stored answers to the arithmetic through the proved functions, and writes for each of them how many answers differ. How data/ was
-// made is in oracle/README.md, "Inputs and vectors", and what its words are in "The table".
+// Replays the oracle's stored answers to the arithmetic through the proved functions, and writes for each of them how many answers
+// differ. How data/ was made is in oracle/README.md, "Inputs and vectors", and what its words are in "The table".
 #![tactic(auto)]
 
 mod of_matrix;

@@ -8,61 +8,62 @@ use std::io::Print;
 use vector::{Mat3, Quat, Vec3};
 
 // Each with the words of its records, and whether the function's answer to a record's first words is what stands after them.
+#[tactic(auto, using(replay::specs::Tallies::none, crate::specs::Agrees::then_file))]
 pub(crate) fn all<R: Files + Print + Alloc>(replay: &mut Replay<R>)
     ensures { Through spec.files replay.old.tally replay.new.tally }
 {
     replay.file(
-        b"mul_vec.bin",
+        "mul_vec.bin",
         15,
         |w| w.holds(12, w.at::<Mat3>(0) * w.at::<Vec3>(9)),
     );
     replay.file(
-        b"mul_mat.bin",
+        "mul_mat.bin",
         27,
         |w| w.holds(18, w.at::<Mat3>(0) * w.at::<Mat3>(9)),
     );
     replay.file(
-        b"add_mat.bin",
+        "add_mat.bin",
         27,
         |w| w.holds(18, w.at::<Mat3>(0) + w.at::<Mat3>(9)),
     );
     replay.file(
-        b"sub_mat.bin",
+        "sub_mat.bin",
         27,
         |w| w.holds(18, w.at::<Mat3>(0) - w.at::<Mat3>(9)),
     );
     replay.file(
-        b"scale_mat.bin",
+        "scale_mat.bin",
         19,
         |w| w.holds(10, w.at::<Mat3>(0) * w.at::<f32>(9)),
     );
     replay.file(
-        b"transpose.bin",
+        "transpose.bin",
         18,
         |w| w.holds(9, w.at::<Mat3>(0).transpose()),
     );
     replay.file(
-        b"determinant.bin",
+        "determinant.bin",
         10,
         |w| w.holds(9, w.at::<Mat3>(0).determinant()),
     );
     replay.file(
-        b"product.bin",
+        "product.bin",
         12,
         |w| w.holds(8, w.at::<Quat>(0) * w.at::<Quat>(4)),
     );
     replay.file(
-        b"normalise.bin",
+        "normalise.bin",
         8,
         |w| w.holds(4, w.at::<Quat>(0).normalise()),
     );
     replay.file(
-        b"to_matrix.bin",
+        "to_matrix.bin",
         13,
         |w| w.holds(4, w.at::<Quat>(0).to_matrix()),
     );
     replay.file(
-        b"from_axis_angle.bin",
+        "from_axis_angle.bin",
         8,
         |w| w.holds(4, Quat::from_axis_angle(w.at(0), w.at(3))),
     );

@@ -8,40 +8,41 @@ use std::fs::Files;
 use std::io::Print;
 
 // Each with the words of its records, and whether the function's answer to a record's first words is what stands after them.
+#[tactic(auto, using(replay::specs::Tallies::none, crate::specs::Agrees::then_file))]
 pub(crate) fn all<R: Files + Print + Alloc>(replay: &mut Replay<R>)
     ensures { Through spec.files replay.old.tally replay.new.tally }
 {
-    replay.file(b"symmetric_eigen.bin", 21, |w| {
+    replay.file("symmetric_eigen.bin", 21, |w| {
         let r = linalg::symmetric_eigen(w.at(0));
         w.holds(9, r.values) & w.holds(12, r.vectors)
     });
     replay.file(
-        b"cofactor.bin",
+        "cofactor.bin",
         18,
         |w| w.holds(9, linalg::cofactor(w.at(0))),
     );
     replay.file(
-        b"outer_product.bin",
+        "outer_product.bin",
         15,
         |w| w.holds(6, linalg::outer_product(w.at(0), w.at(3))),
     );
     replay.file(
-        b"extract_rotation.bin",
+        "extract_rotation.bin",
         17,
         |w| w.holds(13, rotation::extract_rotation(w.at(0), w.at(9))),
     );
     replay.file(
-        b"cell_volume.bin",
+        "cell_volume.bin",
         13,
         |w| w.holds(12, cell::cell_volume(w.at(0))),
     );
     replay.file(
-        b"cell_volume_gradients.bin",
+        "cell_volume_gradients.bin",
         24,
         |w| w.holds(12, cell::cell_volume_gradients(w.at(0))),
     );
     replay.file(
-        b"cell_edge_matrix.bin",
+        "cell_edge_matrix.bin",
         21,
         |w| w.holds(12, cell::cell_edge_matrix(w.at(0))),
     );

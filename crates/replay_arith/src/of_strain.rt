@@ -7,67 +7,68 @@ use std::fs::Files;
 use std::io::Print;
 
 // Each with the words of its records, and whether the function's answer to a record's first words is what stands after them.
+// Its calls are more than a search looks into, so that its proof names them.
 pub(crate) fn all<R: Files + Print + Alloc>(replay: &mut Replay<R>)
     ensures { Through spec.files replay.old.tally replay.new.tally }
 {
     replay.file(
-        b"add6.bin",
+        "add6.bin",
         18,
         |w| w.holds(12, strain::add::<6>(&w.at(0), &w.at(6))),
     );
     replay.file(
-        b"sub6.bin",
+        "sub6.bin",
         18,
         |w| w.holds(12, strain::sub::<6>(&w.at(0), &w.at(6))),
     );
     replay.file(
-        b"scale6.bin",
+        "scale6.bin",
         13,
         |w| w.holds(7, strain::scale::<6>(&w.at(0), w.at(6))),
     );
     replay.file(
-        b"component_mul6.bin",
+        "component_mul6.bin",
         18,
         |w| w.holds(12, strain::component_mul::<6>(&w.at(0), &w.at(6))),
     );
     replay.file(
-        b"dot6.bin",
+        "dot6.bin",
         13,
         |w| w.holds(12, strain::dot6(&w.at(0), &w.at(6))),
     );
     replay.file(
-        b"mat_vec.bin",
+        "mat_vec.bin",
         48,
         |w| w.holds(42, strain::mat_vec(&w.at(0), &w.at(36))),
     );
     replay.file(
-        b"mat_mul.bin",
+        "mat_mul.bin",
         108,
         |w| w.holds(72, strain::mat_mul(&w.at(0), &w.at(36))),
     );
     replay.file(
-        b"add36.bin",
+        "add36.bin",
         108,
         |w| w.holds(72, strain::add::<36>(&w.at(0), &w.at(36))),
     );
     replay.file(
-        b"scale36.bin",
+        "scale36.bin",
         73,
         |w| w.holds(37, strain::scale::<36>(&w.at(0), w.at(36))),
     );
     replay.file(
-        b"ger.bin",
+        "ger.bin",
         79,
         |w| w.holds(43, strain::ger(w.at(0), &w.at(1), &w.at(7))),
     );
     replay.file(
-        b"from_diagonal.bin",
+        "from_diagonal.bin",
         42,
         |w| w.holds(6, strain::from_diagonal(&w.at(0))),
     );
-    replay.file(b"identity6.bin", 36, |w| w.holds(0, strain::identity6()));
+    replay.file("identity6.bin", 36, |w| w.holds(0, strain::identity6()));
     replay.file(
-        b"try_inverse.bin",
+        "try_inverse.bin",
         72,
         |w| w.holds(36, inverse::try_inverse(&w.at(0))),
     );

@@ -8,45 +8,46 @@ use std::io::Print;
 use vector::Vec3;
 
 // Each with the words of its records, and whether the function's answer to a record's first words is what stands after them.
+#[tactic(auto, using(replay::specs::Tallies::none, crate::specs::Agrees::then_file))]
 pub(crate) fn all<R: Files + Print + Alloc>(replay: &mut Replay<R>)
     ensures { Through spec.files replay.old.tally replay.new.tally }
 {
-    replay.file(b"dot.bin", 7, |w| w.holds(6, w.at::<Vec3>(0).dot(w.at(3))));
+    replay.file("dot.bin", 7, |w| w.holds(6, w.at::<Vec3>(0).dot(w.at(3))));
     replay.file(
-        b"cross.bin",
+        "cross.bin",
         9,
         |w| w.holds(6, w.at::<Vec3>(0).cross(w.at(3))),
     );
-    replay.file(b"length.bin", 4, |w| w.holds(3, w.at::<Vec3>(0).length()));
+    replay.file("length.bin", 4, |w| w.holds(3, w.at::<Vec3>(0).length()));
     replay.file(
-        b"length_squared.bin",
+        "length_squared.bin",
         4,
         |w| w.holds(3, w.at::<Vec3>(0).length_squared()),
     );
     replay.file(
-        b"element_sum.bin",
+        "element_sum.bin",
         4,
         |w| w.holds(3, w.at::<Vec3>(0).element_sum()),
     );
     replay.file(
-        b"add.bin",
+        "add.bin",
         9,
         |w| w.holds(6, w.at::<Vec3>(0) + w.at::<Vec3>(3)),
     );
     replay.file(
-        b"sub.bin",
+        "sub.bin",
         9,
         |w| w.holds(6, w.at::<Vec3>(0) - w.at::<Vec3>(3)),
     );
     replay.file(
-        b"scale.bin",
+        "scale.bin",
         7,
         |w| w.holds(4, w.at::<Vec3>(0) * w.at::<f32>(3)),
     );
     replay.file(
-        b"divide.bin",
+        "divide.bin",
         7,
         |w| w.holds(4, w.at::<Vec3>(0) / w.at::<f32>(3)),
     );
-    replay.file(b"neg.bin", 6, |w| w.holds(3, -w.at::<Vec3>(0)));
+    replay.file("neg.bin", 6, |w| w.holds(3, -w.at::<Vec3>(0)));
 }

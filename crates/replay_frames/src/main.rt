@@ -1,5 +1,5 @@
-// Replays stored frames, good and damaged, and compares check's number and place with those stored. The file `frames` is written by generate.py,
-// which says how it is laid out.
+// Replays stored frames, good and damaged, and compares check's number and place with those stored. The file `frames` is written by
+// generate.py, which says how it is laid out.
 #![tactic(auto)]
 
 ghost use Rattle.std.specs.Prelude.{◌≡◌, ◌+◌, ◌*◌, ◌<◌, ◌≤◌, length};
@@ -56,31 +56,20 @@ fn as_stored(base: &[u8; 4096], entry: &[u8; 22]) -> bool
         get_u16(entry, 12),
         get_u32(entry, 14),
     );
-    answered(
-        &frame,
-        get_u16(entry, 0),
-        get_u16(entry, 18),
-        get_u16(entry, 20),
-    )
+    let wanted = Answer {
+        number: u32::from(get_u16(entry, 18)),
+        place: u64::from(get_u16(entry, 20)),
+    };
+    answered(&frame, get_u16(entry, 0), wanted)
 }
 
 // Whether check answers so for the first `len` bytes; not where there are fewer.
-fn answered(frame: &[u8], len: u16, number: u16, place: u16) -> bool
-    ensures { result ≡ spec.answered frame.now len number place }
+fn answered(frame: &[u8], len: u16, wanted: Answer) -> bool
+    ensures { result ≡ spec.answered frame.now len wanted.number wanted.place }
 {
-    match frame.split_at_checked(usize::from(len)) {
-        Some((frame, _)) => same(frame::check(frame).into(), number, place),
-        None => false,
-    }
-}
-
-fn same(a: Answer, number: u16, place: u16) -> bool
-    ensures { result ≡ spec.same a number place }
-{
-    a == Answer {
-        number: u32::from(number),
-        place: u64::from(place),
-    }
+    frame
+        .get(..usize::from(len))
+        .is_some_and(|part| Answer::from(frame::check(part)) == wanted)
 }
 
 // The number n in `width` bytes, 2 or 4, at `at`, where they fit; nothing at another width.

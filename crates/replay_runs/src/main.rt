@@ -26,20 +26,31 @@ fn replay(alloc: Global, bytes: &[u8]) -> Result<Tally, AllocError>
     let mut tally = Tally::NONE;
     let mut rest = bytes;
     while let Some((entry, others)) = first(rest) {
-        let mut frame = entry.frame.to_vec(alloc)?;
-        tally.count(as_stored(&mut frame, entry.number, entry.place, entry.after));
+        tally.count(entry.as_stored(alloc)?);
         rest = others;
     }
     Ok(tally)
 }
 
-// A stored frame, the number and the place that check and run must return for it, and the bytes that run must leave.
+// A stored frame, the answer that check and run must give for it, and the bytes that run must leave.
 #[derive(Clone, Copy)]
 struct Entry<'a> {
     frame: &'a [u8],
-    number: u32,
-    place: u32,
+    answer: Answer,
     after: &'a [u8],
+}
+
+impl Entry<'_> {
+    // Whether check and run answer as stored for the frame, and run leaves the bytes that are stored.
+    fn as_stored(self, alloc: Global) -> Result<bool, AllocError>
+        ensures { IfOk result (λ b. b ≡ spec.as_stored self.entry.frame.now self.entry.answer.number self.entry.answer.place self.entry.after.now) }
+    {
+        let mut copy = self.frame.to_vec(alloc)?;
+        let frame = copy.as_mut_slice();
+        let checked = Answer::from(run::check(frame));
+        let returned = Answer::from(run::run(frame));
+        Ok((checked == self.answer) & (returned == self.answer) & (&*frame == self.after))
+    }
 }
 
 // The entry that the bytes begin with, and the bytes behind it: none where they end before it does.
@@ -50,29 +61,14 @@ fn first(bytes: &[u8]) -> Option<(Entry<'_>, &[u8])>
     let n = get_u32(head, 0) as usize;
     let (frame, rest) = rest.split_at_checked(n)?;
     let (after, rest) = rest.split_at_checked(n)?;
+    let answer = Answer {
+        number: get_u32(head, 4),
+        place: u64::from(get_u32(head, 8)),
+    };
     let entry = Entry {
         frame,
-        number: get_u32(head, 4),
-        place: get_u32(head, 8),
+        answer,
         after,
     };
     Some((entry, rest))
-}
-
-// Whether check and run return this number and place for the frame, and run leaves these bytes.
-fn as_stored(frame: &mut [u8], number: u32, place: u32, after: &[u8]) -> bool
-    ensures { result ≡ spec.as_stored frame.old number place after.now }
-{
-    let checked = Answer::from(run::check(frame));
-    let returned = Answer::from(run::run(frame));
-    is(checked, number, place) & is(returned, number, place) & (&*frame == after)
-}
-
-fn is(a: Answer, number: u32, place: u32) -> bool
-    ensures { result ≡ spec.is a number place }
-{
-    a == Answer {
-        number,
-        place: u64::from(place),
-    }
 }

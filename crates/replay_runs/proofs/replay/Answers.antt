@@ -12,7 +12,7 @@ loop-entry-preserved c =
     let so_far = c.loop-entry.invariant in
     let next = c.count.ensures in
     record {
-      counted = counted _ _ _ _ so_far.counted c.as_stored.ensures next.records next.differ;
-      few = omega (arith, so_far.few, miss_few c.as_stored.result, next.records, next.differ);
+      counted = counted _ _ _ _ so_far.counted c.in_ok-as_stored.ensures next.records next.differ;
+      few = omega (arith, so_far.few, miss_few c.in_ok-as_stored.field-0, next.records, next.differ);
       passed = omega (arith, so_far.passed, next.records, c.in-Some.ensures);
     }
