@@ -1,7 +1,6 @@
 -- One float after another is compared. Assumes nothing.
-use Rattle.std.proofs.Common.{rules, arith, ◌≡◌, ◌+◌, Bool, true, false, ℕ}
+use Rattle.std.proofs.Common.{rules, arith, ◌≡◌, ◌+◌, Bool, true, false, ℕ, tests}
 use Rattle.std.proofs.lemmas.Iterator.{cases_from_all, YieldsList-from_range}
-use borrow.Author.Tests.{tests}
 use Rattle.real.specs.Float.{at}
 use Rattle.replay.specs.Words.{float_is, floats_are, words_of}
 use Rattle.replay.proofs.Compared.{all_of}
