@@ -1,7 +1,7 @@
 -- Local steps from local steps: nothing; one after another; by a test of the row. And the form that every row function has: fetch what the named
 -- points hold, compute from the row and that alone, and then alter the points of a list one by one.
 -- Assumes nothing.
-use Rattle.std.specs.Prelude.{◌≡◌, refl, Bool, true, false, ◌≢◌, ℕ, zero, suc, sym, ap, ◌∙◌, subst, inl, inr, arith, List, [], ◌∷◌}
+use Rattle.std.proofs.Common.{◌≡◌, refl, Bool, true, false, ◌≢◌, ℕ, zero, suc, sym, ap, ◌∙◌, subst, inl, inr, arith, List, [], ◌∷◌}
 use Rattle.std.proofs.Math.Option.{Option, none, some}
 use Rattle.std.proofs.Math.Decide.{ℕ_discrete}
 use mathlib.Core.List.Memᴰ

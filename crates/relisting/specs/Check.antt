@@ -1,8 +1,8 @@
 -- Acceptance, as a test that computes: a test of every pair of a list holds exactly where it holds of each two numbers; and the test of two rows given by lists
 -- of ids. That two rows clash by it where they clash, and that a listing that passes is accepted, is in proofs/Check.antt.
 -- Assumes nothing.
-use Rattle.std.specs.Prelude.{Bool, true, false, ◌&&◌, ◌||◌, not, ◌⊎◌, ℕ, zero, suc, ◌<◌, T, leb, eqb, length, get_or, inl, inr, suc-le-suc}
-use Rattle.std.specs.Prelude.{not-suc-le-zero, le_of_suc-le-suc, arith, List, [], ◌∷◌, map}
+use Rattle.std.proofs.Common.{Bool, true, false, ◌&&◌, ◌||◌, not, ◌⊎◌, ℕ, zero, suc, ◌<◌, T, leb, eqb, length, get_or, inl, inr, suc-le-suc}
+use Rattle.std.proofs.Common.{not-suc-le-zero, le_of_suc-le-suc, arith, List, [], ◌∷◌, map}
 use mathlib.Core.List.{Memᴰ}
 
 pub and_both : (a b : Bool) → T (a && b) → T a × T b

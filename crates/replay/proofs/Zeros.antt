@@ -1,6 +1,6 @@
 -- Behind a record's words each is 0: every word is what it is in a buffer of zeros that the record is read into. Assumes nothing.
-use Rattle.std.specs.Prelude.{◌≡◌, refl, ℕ, zero, suc, ◌+◌, ◌*◌, ◌<◌, ◌≤◌, List, length, get_or, set, replicate, slice_index, slice_set}
-use Rattle.std.proofs.Common.{sym, ◌∙◌, ap, inl, inr, arith, ne_of_lt, length-set, get_or-set_same, get_or-set_other}
+use Rattle.std.specs.Prelude.{◌≡◌, refl, ℕ, zero, suc, ◌+◌, ◌*◌, ◌<◌, ◌≤◌, List, length, get_or, replicate, slice_index, slice_set}
+use Rattle.std.proofs.Common.{sym, ◌∙◌, inl, inr, arith, ne_of_lt, length-set, get_or-set_same, get_or-set_other}
 use Rattle.std.proofs.lemmas.List.{get_or_past, get_or-replicate, length-replicate}
 use Rattle.little_endian.specs.Bytes.{le32}
 use Rattle.loops.specs.Between.{lt_or_ge}

@@ -43,7 +43,8 @@ struct Entry<'a> {
 impl Entry<'_> {
     // Whether check and run answer as stored for the frame, and run leaves the bytes that are stored.
     fn as_stored(self, alloc: Global) -> Result<bool, AllocError>
-        ensures { IfOk result (λ b. b ≡ spec.as_stored self.entry.frame.now self.entry.answer.number self.entry.answer.place self.entry.after.now) }
+        ensures { IfOk result (λ b. b ≡ spec.as_stored self.entry.frame.now
+            self.entry.answer.number self.entry.answer.place self.entry.after.now) }
     {
         let mut copy = self.frame.to_vec(alloc)?;
         let frame = copy.as_mut_slice();

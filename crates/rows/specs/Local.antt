@@ -1,5 +1,5 @@
 -- A row's update, warm start and solve are local: each goes by its row and the points that the row names, alters only named points in range, and keeps colour, names and masses. Assumes nothing.
-use Rattle.std.specs.Prelude.{ℕ, ◌≡◌, refl, Bool, true, false, ltb, Float, ap, inl, inr, List, [], ◌∷◌}
+use Rattle.std.proofs.Common.{ℕ, ◌≡◌, refl, Bool, true, false, ltb, Float, ap, inl, inr, List, [], ◌∷◌}
 use Rattle.std.proofs.Math.Option.{Option}
 use mathlib.Core.List.Memᴰ
 use mathlib.Core.List.{Memᴰ}

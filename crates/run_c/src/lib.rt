@@ -1,4 +1,5 @@
-// The crate `run` under names that a program in another language can call: of each function the same contract, and nothing that the caller owes.
+// The crate `run` under names that a program in another language can call: of each function the same contract, and nothing that the caller
+// owes.
 #![tactic(auto)]
 
 ghost use Rattle.std.specs.Prelude.{◌≡◌};
