@@ -3,7 +3,7 @@ use Rattle.std.specs.Prelude.{ℕ, zero, suc, ◌+◌, ◌*◌, ◌<◌, ◌≤�
 use Rattle.std.proofs.Math.Path.{refl, sym}
 use Rattle.std.proofs.Common.{◌∙◌, inl, inr}
 use Rattle.std.proofs.Math.Bool.{true, false}
-use native.Mathlib.Omega.{arith}
+use Rattle.std.proofs.Common.{arith}
 use Rattle.loops.specs.Loops.{up_to}
 use Rattle.real.specs.Float.{at}
 use Rattle.little_endian.specs.Bytes.{le16, le32, f32_bytes, bytes2, patch}
