@@ -1,5 +1,6 @@
 // The inverse of a 6x6 matrix, column by column, by elimination with partial pivoting: in place, and only on the
-// entries that change. The loops go by index: an entry's place in the flat matrix is made of two, and a row of it is no slice.
+// entries that change. The loops go by index: an entry's place in the flat matrix is made of two, and a row of it is no slice. That
+// they are below 6 stands in each contract: a type for it would be taken apart at each entry.
 #![tactic(auto)]
 
 ghost use Rattle.std.specs.Prelude.{◌≡◌, ◌<◌, length, is_ok};

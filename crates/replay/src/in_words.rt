@@ -7,6 +7,7 @@ ghost use Rattle.replay.specs.Words as spec;
 use std::array::from_fn;
 use vector::{Four, Mat3, Quat, Vec3};
 
+// A value is asked for by the bytes and the number of its first word, which its contract bounds: both are given once, by `Record`.
 pub trait InWords: Drop {
     ghost WORDS: { ℕ };
 

@@ -63,7 +63,8 @@ impl<'a> Record<'a> {
     }
 }
 
-// ---- the phases. The record is read, and then what the phase assigns is put into it
+// ---- the phases. The record is read, and then what the phase assigns is put into it. That it is whole each asks of the bytes that it is
+// lent: a type that held it beside the `&mut` would have to be given back after each put, as in cell_record
 
 #[tactic(auto, using(crate::proofs::ByKind::by_update))]
 pub fn update_row(b: &mut [u8], held: Holds, least: f32)

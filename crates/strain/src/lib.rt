@@ -87,7 +87,7 @@ pub fn any_above6(a: &[f32; 6], limit: f32) -> bool
     a.iter().any(|x| abs(*x) > limit)
 }
 
-// ---- products
+// ---- products. That a column's number is below 6 stands in each contract: a type for it would be taken apart at each entry
 
 // Row i of m times v. The row is written out: a loop that gathers it makes `mat_vec` slower by half.
 #[tactic(auto, unfolding(crate::specs::Matrix::row))]

@@ -41,7 +41,8 @@ struct Row {
 // ---- one row: fetch, compute, alter
 
 // The frame s and the velocities v go together, but stay two slices: of a struct of two `&mut` each function would have to ensure that it
-// keeps both references and their lengths, which the type of a slice says.
+// keeps both references and their lengths, which the type of a slice says. That the row stands in the frame is asked of the frame as it is
+// then, so that it is no field of the row.
 impl Row {
     fn update(self, least: Option<f32>, s: &mut [u8], v: &[Vec3])
         requires { Stood self v.now s.old }
