@@ -24,8 +24,8 @@ use vector::{Four, Mat3, Vec3};
 // The bytes of an elastic row, as far as both kinds have the same fields.
 pub type ElasticBytes<'a> = RowBytes<'a, 450>;
 
-// Each put here asks for the length: a type that held it beside the `&mut` was tried, and each put then had to promise that it still holds
-// the same reference; with AllWritten in it too, it would ask that of callers, where Kept passes it on.
+// Each put here asks for the length. A type that held it beside the `&mut` was tried: each put then had to ensure that it keeps the same
+// reference. Kept passes AllWritten on, which such a type would ask of callers.
 pub fn put_strained(b: &mut [u8], strain: &[f32; 6], least: f32)
     requires { 450 ≤ length b.old }
     ensures { (b.new ≡ put_flag b.old at.row_strained (cell.is_strained strain.now least)) × Kept b.old b.new }
@@ -149,7 +149,7 @@ pub fn compliance_of(b: ElasticBytes) -> Compliance
 }
 
 // The block's inverse times a residual: read and multiplied in one function, which both kinds call, since the product would lose its
-// vectors if it were compiled into a solve.
+// vector instructions if it were compiled into a solve.
 #[inline(never)]
 pub fn eased_at(b: ElasticBytes, residual: &[f32; 6]) -> [f32; 6]
     ensures { result ≡ mat_vec (compliance_of b.entry.bytes.now).inv_a residual.now }

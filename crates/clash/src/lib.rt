@@ -51,6 +51,7 @@ fn names_of(b: &[u8]) -> Names
 fn is_marked(marks: &[u32], mark: u32, id: Option<u32>) -> bool
     ensures { result ≡ is_marked marks.now mark id }
 {
+    // By index: with `get` check took more instructions on elastic rows. `as`, here and below: usize has no `From` of u32.
     id.is_some_and(|id| (id as usize) < marks.len() && marks[id as usize] == mark)
 }
 

@@ -7,7 +7,7 @@ pub mod volumetric; // the update of the volumetric row
 use cell::{Cell, Compliance, Impulses, Pose};
 use vector::{Four, Vec3};
 
-// Corotational: what no step alters.
+// Corotational: what no step alters. `volumetric` is a fact of the row, as in the Rust: no field is valid only with it.
 #[repr(C)]
 #[derive(Clone, Copy)]
 pub struct Springs {

@@ -68,7 +68,7 @@ pub fn updated(b: Bytes, held: Holds) -> Update
     Update { pose, volume }
 }
 
-// The puts ask for the length as cell_record's do, and for its reason.
+// The puts ask for the length as those of cell_record do, and for the reason that stands there.
 #[tactic(auto, unfolding(stored::specs::Put::put_volume, floats::specs::Fields::put_four))]
 fn put_volume(b: &mut [u8], v: Volume)
     requires { 618 ≤ length b.old }

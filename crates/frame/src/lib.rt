@@ -1,7 +1,7 @@
 // A whole frame: check, for every list of bytes of any length.
 #![tactic(auto)]
 
-ghost use Rattle.std.specs.Prelude.{◌≡◌, ℕ, ◌≤◌, length, IfOk};
+ghost use Rattle.std.specs.Prelude.{◌≡◌, ◌≤◌, length, IfOk};
 ghost use Rattle.records.specs.Answers.{outcome, answer_of};
 ghost use Rattle.records.specs.Outcomes.{refusal_of};
 ghost use Rattle.records.specs.Records.{records_tests, end_of};
@@ -33,6 +33,7 @@ pub fn check(frame: &[u8]) -> Result<(), Refused>
     ensures { answer_of result ≡ check_of frame.now }
 {
     records::record_test(Due::Head, frame, 0, 0)?;
+    // `as`: usize has no `From` of u32.
     let n = little_endian::get_u32(frame, layout::HEAD_POINTS) as usize;
     let r = little_endian::get_u32(frame, layout::HEAD_ROWS) as usize;
     let at = records_test(Due::Point, n, frame, layout::HEAD_END)?;

@@ -186,7 +186,7 @@ fn backward(m: &[f32; 36], x: &mut [f32; 6])
     }
 }
 
-// The inverse, or zeros where a pivot is zero.
+// The inverse, or zeros where a pivot is zero, as the Rust gives and C gets: inside it is a Result.
 pub fn try_inverse(m: &[f32; 36]) -> [f32; 36]
     ensures { result ≡ spec.try_inverse m.now }
 {

@@ -6,10 +6,10 @@ ghost use Rattle.real.specs.Float.{◌⊕◌, ◌⊖◌, ◌⊗◌};
 ghost use Rattle.linalg.specs.Eigen as spec;
 ghost use Rattle.linalg.specs.Steps as steps;
 
-// A matrix row by row.
+// A matrix row by row, as arrays: P and Q are indices of them, where Mat3's columns are fields.
 pub(crate) type Rows = [[f32; 3]; 3];
 
-// A rotation by its cosine and sine.
+// A rotation by its cosine and sine. Not `SinCos`, which is of an angle, and C's.
 #[derive(Clone, Copy)]
 pub(crate) struct Rotation {
     pub(crate) c: f32,

@@ -91,7 +91,7 @@ pub fn updated(b: Bytes, held: Holds) -> Update
     }
 }
 
-// The puts ask for the length as cell_record's do, and for its reason.
+// The puts ask for the length as those of cell_record do, and for the reason that stands there.
 #[tactic(auto, unfolding(stored::specs::Put::put_renewed))]
 fn put_block(b: &mut [u8], k: &Block)
     requires { 678 ≤ length b.old }

@@ -38,7 +38,7 @@ pub fn signum(x: f32) -> f32
     1.0
 }
 
-// The library's `max` leaves open which zero it gives of two.
+// The library's `max` leaves open which zero it gives of two: every machine is to give the same.
 #[tactic(auto, unfolding(crate::specs::Real::max))]
 pub fn max(a: f32, b: f32) -> f32
     ensures { result ≡ spec.max a b }
@@ -46,7 +46,7 @@ pub fn max(a: f32, b: f32) -> f32
     pick(a.is_nan(), b, pick(b.is_nan(), a, pick(b <= a, a, b)))
 }
 
-// The library's `clamp` asks that lower <= upper.
+// The library's `clamp` asks that lower <= upper, which here no caller owes.
 #[tactic(auto, unfolding(crate::specs::Real::clamp))]
 pub fn clamp(x: f32, lower: f32, upper: f32) -> f32
     ensures { result ≡ spec.clamp x lower upper }

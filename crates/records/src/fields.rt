@@ -11,8 +11,8 @@ ghost use Rattle.records.specs.Outcomes.{RunsTo};
 
 use crate::{Kind, Refusal, Refused, RowKind, layout};
 
-// The bytes of a record, and the offset in the frame at which they start. How many there are stands in clauses, since the proof with a
-// const parameter for it did not close: the check covers no bound Fn that names one, as that of `run` would.
+// The bytes of a record, and the offset in the frame at which they start. How many there are stands in clauses: with a const parameter for
+// it the proof did not close, since the check covers no `F: Fn` of a function in such an impl, and `run` has one.
 #[derive(Clone, Copy)]
 pub struct Fields<'a> {
     pub bytes: &'a [u8],
@@ -124,7 +124,8 @@ impl Fields<'_> {
 
     // ---- runs of floats
 
-    // Whether n floats from byte k on are all finite. There is no way out before the last, so that the compiler can test several at once.
+    // Whether n floats from byte k on are all finite. There is no way out before the last, so that the compiler can test several at once;
+    // a `fold` would be no plainer.
     fn all_finite(&self, k: usize, n: usize) -> bool
         requires { k + 4 * n ≤ length self.now.bytes.now }
         ensures { result ≡ all_finite self.now.bytes.now k n }

@@ -69,7 +69,8 @@ impl Kind {
 }
 
 impl RowKind {
-    // That of a row's bytes. In an accepted frame the one number left is 5.
+    // That of a row's bytes. In an accepted frame the one number left is 5. By a match of its own: `Kind::try_from` would give cases that
+    // no caller has.
     pub fn of(b: &[u8]) -> RowKind
         requires { 6 ≤ length b.now }
         ensures { result ≡ row_kind (le16 b.now kind_at) }

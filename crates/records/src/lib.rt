@@ -33,7 +33,7 @@ pub enum Refusal {
 }
 
 impl Refusal {
-    // The table's number for it.
+    // The table's number for it. `as`: an enum's number has no `From`.
     pub fn number(self) -> u32
         ensures { result ≡ number_of self }
     {
@@ -77,7 +77,7 @@ impl From<Result<(), Refused>> for Answer {
             },
             Err(refused) => Answer {
                 number: refused.why.number(),
-                place: refused.place as u64,
+                place: refused.place as u64, // u64 has no `From` of usize
             },
         }
     }
@@ -136,6 +136,7 @@ fn shape(due: Due, s: &[u8], off: usize) -> Result<Kind, Refused>
         why: Refusal::NotDue,
         place: off,
     })?;
+    // `as`: usize has no `From` of u32.
     refuse(left < 4 + (len as usize), Refusal::NotWhole, off)?;
     Ok(kind)
 }
@@ -145,6 +146,7 @@ pub fn record_at(s: &[u8], off: usize) -> &[u8]
     requires { off + record_length s.now off ≤ length s.now }
     ensures { (result.now ≡ record_at s.now off) × (length result.now ≡ record_length s.now off) }
 {
+    // `as`: usize has no `From` of u32.
     let end = off + 4 + (little_endian::get_u32(s, off) as usize);
     &s[off..end]
 }

@@ -1,5 +1,5 @@
 // Reading a file of records, and reporting on it. A name is bytes, since a &str would ask more of a caller.
-ghost use Rattle.std.specs.Prelude.{ℕ, ◌<◌, IfOk, length};
+ghost use Rattle.std.specs.Prelude.{◌<◌, IfOk, length};
 ghost use Rattle.std.specs.Str.{IsUtf8};
 
 use crate::Tally;

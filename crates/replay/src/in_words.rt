@@ -7,7 +7,8 @@ ghost use Rattle.replay.specs.Words as spec;
 use std::array::from_fn;
 use vector::{Four, Mat3, Quat, Vec3};
 
-// A value is asked for by the bytes and the number of its first word, which its contract bounds: both are given once, by `Record`.
+// Of any words, where `floats::Field` asks for a NaN's one pattern. k is the number of a value's first word: `Record`'s two methods pass
+// its bound on.
 pub trait InWords: Drop {
     ghost WORDS: { ℕ };
 

@@ -31,6 +31,7 @@ fn replay(base: &[u8; 4096], entries: &[u8]) -> Tally
     ensures all { (22 * result.records ≤ length entries.now) × (length entries.now < 22 * result.records + 22) }
 {
     let mut tally = Tally::NONE;
+    // The type of a chunk says that it has an entry's bytes, which `chunks_exact` leaves to be asked.
     let mut rest = entries;
     while let Some((entry, others)) = rest.split_first_chunk::<ENTRY>() {
         tally.count(as_stored(base, entry));
@@ -78,7 +79,7 @@ fn put(frame: &mut [u8], at: u16, width: u16, n: u32)
 {
     let at = usize::from(at);
     match width {
-        2 if at + 2 <= frame.len() => put_u16(frame, at, (n % 65536) as u16),
+        2 if at + 2 <= frame.len() => put_u16(frame, at, (n % 65536) as u16), // the lower half
         4 if at + 4 <= frame.len() => put_u32(frame, at, n),
         _ => {}
     }

@@ -59,7 +59,7 @@ fn first(bytes: &[u8]) -> Option<(Entry<'_>, &[u8])>
     ensures { IfSome result (λ p. 12 + length p.1.now ≤ length bytes.now) }
 {
     let (head, rest) = bytes.split_first_chunk::<12>()?;
-    let n = get_u32(head, 0) as usize;
+    let n = get_u32(head, 0) as usize; // usize has no `From` of u32
     let (frame, rest) = rest.split_at_checked(n)?;
     let (after, rest) = rest.split_at_checked(n)?;
     let answer = Answer {

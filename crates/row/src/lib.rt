@@ -1,7 +1,7 @@
 // The phases of one row on the bytes of its record, by its kind.
 #![tactic(auto)]
 
-ghost use Rattle.std.specs.Prelude.{◌≡◌, ℕ, ◌≤◌, length};
+ghost use Rattle.std.specs.Prelude.{◌≡◌, ◌≤◌, length};
 ghost use Rattle.little_endian.specs.Bytes.{le16};
 ghost use Rattle.floats.specs.Written.{AllWritten};
 ghost use Rattle.rows.specs.Row as rows;
@@ -40,6 +40,7 @@ pub struct Record<'a> {
 }
 
 impl<'a> Record<'a> {
+    // As ids, not as clash's Options: NOBODY in the record and a place that is not counted are one case for points.
     #[tactic(auto, using(crate::proofs::ByKind::long_row, crate::proofs::ByKind::names_of_kind))]
     pub fn names(self) -> Ids
         ensures { result ≡ spec.names_at self.entry.bytes.now }
@@ -63,8 +64,8 @@ impl<'a> Record<'a> {
     }
 }
 
-// ---- the phases. The record is read, and then what the phase assigns is put into it. That it is whole each asks of the bytes that it is
-// lent: a type that held it beside the `&mut` would have to be given back after each put, as in cell_record
+// ---- the phases. The record is read, and then what the phase assigns is put into it. Each asks that the bytes
+// are whole: for a type with the `&mut`, see cell_record's puts
 
 #[tactic(auto, using(crate::proofs::ByKind::by_update))]
 pub fn update_row(b: &mut [u8], held: Holds, least: f32)
@@ -88,7 +89,8 @@ pub fn update_row(b: &mut [u8], held: Holds, least: f32)
     }
 }
 
-// What each place is to lose.
+// What each place is to lose. This and the next call other functions of each kind and put other fields: one function for both would take
+// a closure for each kind.
 #[tactic(auto, using(crate::proofs::ByKind::by_phase), unfolding(rows::specs::Step::warmstart_of, stored::specs::Put::warm_constraint))]
 pub fn warm_row(b: &mut [u8], coeff: f32) -> Four<Vec3>
     requires { Whole b.old }

@@ -1,7 +1,7 @@
 // THE RUN of a whole frame, in place. A frame is run or refused, whatever its length and content.
 #![tactic(auto)]
 
-ghost use Rattle.std.specs.Prelude.{◌≡◌, ℕ, ◌≤◌, length};
+ghost use Rattle.std.specs.Prelude.{◌≡◌, ◌≤◌, length};
 ghost use Rattle.records.specs.Answers.{answer_of};
 ghost use Rattle.frame.specs.Check.{check_of};
 ghost use Rattle.stored.specs.Run.{answers, leaves};
@@ -37,6 +37,7 @@ pub fn run(s: &mut [u8]) -> Result<(), Refused>
     ensures { (answer_of result ≡ answers s.old) × (s.new ≡ leaves s.old) }
 {
     frame::check(s)?;
+    // `as`: usize has no `From` of u32.
     let n = little_endian::get_u32(s, layout::HEAD_POINTS) as usize;
     let r = little_endian::get_u32(s, layout::HEAD_ROWS) as usize;
     let k = little_endian::get_u16(s, layout::HEAD_RESWEEPS);

@@ -32,7 +32,7 @@ pub struct Response {
     pub peak_impulse: f32,
 }
 
-// A row names its first `count` places.
+// A row names its first `count` places: the record's own number, which an update compares.
 #[repr(C)]
 #[derive(Clone, Copy)]
 pub struct SoftScalarConstraint {

@@ -70,7 +70,7 @@ fn row_of(b: Bytes) -> SoftScalarConstraint
     }
 }
 
-// ---- put: each asks for the length, as cell_record's do and for its reason
+// ---- put: each asks for the length, as those of cell_record do, and for the reason that stands there
 
 #[tactic(auto, unfolding(stored::specs::Put::put_response))]
 fn put_response(b: &mut [u8], s: Response)

@@ -1,7 +1,7 @@
 // One row's step in a frame, and the sweeps: the rows in listed order, with the place of the next one carried along.
 #![tactic(auto)]
 
-ghost use Rattle.std.specs.Prelude.{◌≡◌, ℕ, ◌+◌, ◌≤◌, length};
+ghost use Rattle.std.specs.Prelude.{◌≡◌, ◌+◌, ◌≤◌, length};
 ghost use Rattle.little_endian.specs.Bytes.{le16};
 ghost use Rattle.records.specs.Records.{record_length, record_at};
 ghost use Rattle.stored.specs.Points as spec;
@@ -117,7 +117,7 @@ fn step(t: Turn, off: usize, len: usize, s: &mut [u8], v: &mut [Vec3])
     row.solve(s, v);
 }
 
-// ---- the sweeps: r rows
+// ---- the sweeps: r rows. That the frame is laid out so is asked of it as it is then, and so stands in each contract
 
 // The bytes of the row at off, as a part of the frame. A scalar row's length is known by its kind, through a branch: so the place of the
 // next row does not wait until the length is read.
@@ -166,7 +166,8 @@ fn sweep_apart(p: Phases, k: u16, r: usize, s: &mut [u8], v: &mut [Vec3])
     velocities::scatter(v, s);
 }
 
-// The same of n points. The velocities are on the stack: a run is called from C, with fixed memory and without an allocator.
+// The same of n points; the numbers are the head's, each used alone. The velocities are on the stack: a run is called from C, with fixed
+// memory and without an allocator.
 pub fn sweep_all(p: Phases, k: u16, n: usize, r: usize, s: &mut [u8])
     requires { Ready n r s.old × Calm n s.old }
     ensures { Ran p k n r s.old s.new }
