@@ -1,18 +1,16 @@
 // What both elastic rows share on the bytes of a record: the pose anew, the strain rows, the impulses, and what of them is put back.
 #![tactic(auto)]
 
-ghost use Rattle.std.specs.Prelude.{◌≡◌, ◌+◌, ◌%◌, ◌≤◌, length};
+ghost use Rattle.std.specs.Prelude.{◌≡◌, ◌≤◌, length};
 ghost use Rattle.records.specs.Layout as at;
 ghost use Rattle.strain.specs.Matrix.{mat_vec};
 ghost use Rattle.cell.specs.Cell as cell;
-ghost use Rattle.floats.specs.Fields.{floats_at};
 ghost use Rattle.floats.specs.Written.{Kept};
 ghost use Rattle.stored.specs.Read.{cell_of, pose_of, compliance_of, impulses_of};
 ghost use Rattle.stored.specs.Put.{put_flag, put_pose, put_impulses};
 ghost use Rattle.cell_record.specs.Anew.{pos_anew, deformation_anew, posed_anew};
 ghost use Rattle.cell_record.specs.Rows.{strain_rows};
 
-use cell::tensor::from_columns;
 use cell::{Compliance, Impulses, Pose, StrainRows};
 use floats::Field;
 use floats::row_bytes::RowBytes;
@@ -117,26 +115,7 @@ pub fn put_impulses(b: &mut [u8], l: Impulses)
     l.vol.put(b, layout::ELASTIC_VOL_IMPULSE);
 }
 
-// ---- 6x6 matrices
-
-// The matrix at k, column by column. Six reads, written out: a closure for them would have to ask for the three facts of k again.
-#[inline(always)]
-#[tactic(auto, using(crate::proofs::Joined::joined))]
-pub fn matrix_at<const N: usize>(b: RowBytes<N>, k: usize) -> [f32; 36]
-    requires first { 30 ≤ k }
-    requires turn { k % 4 ≡ 2 }
-    requires inside { k + 144 ≤ N }
-    ensures { result ≡ floats_at 36 b.entry.bytes.now k }
-{
-    from_columns(&[
-        b.get(k),
-        b.get(k + 24),
-        b.get(k + 48),
-        b.get(k + 72),
-        b.get(k + 96),
-        b.get(k + 120),
-    ])
-}
+// ---- the block's inverse
 
 #[inline(always)]
 #[tactic(auto, unfolding(stored::specs::Read::compliance_of))]
@@ -144,7 +123,7 @@ pub fn compliance_of(b: ElasticBytes) -> Compliance
     ensures { result ≡ compliance_of b.entry.bytes.now }
 {
     Compliance {
-        inv_a: matrix_at(b, layout::ELASTIC_INV_A),
+        inv_a: b.get(layout::ELASTIC_INV_A),
     }
 }
 

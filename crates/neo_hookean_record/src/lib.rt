@@ -11,7 +11,7 @@ ghost use Rattle.stored.specs.Read.{material_of, stiffness_of, neo_hookean_of};
 ghost use Rattle.neo_hookean_record.specs.Parts as spec;
 
 use cell::{Impulses, Pose, StrainRows};
-use cell_record::{impulses_of, matrix_at, put_pose, strain_rows};
+use cell_record::{impulses_of, put_pose, strain_rows};
 use energy::{Energy, Lame};
 use floats::Field;
 use floats::row_bytes::RowBytes;
@@ -136,7 +136,7 @@ fn stiffness_of(b: Bytes) -> Stiffness
 {
     Stiffness {
         stiffness_strain: b.get(layout::NEO_STIFFNESS_STRAIN),
-        m: matrix_at(b, layout::NEO_M),
+        m: b.get(layout::NEO_M),
         dt_grad: b.get(layout::NEO_DT_GRAD),
     }
 }
