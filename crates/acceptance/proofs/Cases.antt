@@ -9,7 +9,8 @@ use Rattle.records.specs.Records.{is_due, record_length, record_at}
 use Rattle.records.proofs.ByKind.{Kind, due_kind}
 use Rattle.records.proofs.Shapes.{Shaped, longer, kind_of, kind_record}
 use Rattle.acceptance.specs.Given.{GivenField}
-use Rattle.acceptance.specs.Faults.{TooMany, BadCode, NotFinite, Disordered, ColourFalls, Fault, fault_3, fault_4, fault_5, fault_6, fault_7, GivenAs, Given3, Given4, Given5, Given6, Given7}
+use Rattle.acceptance.specs.Faults.{TooMany, BadCode, NotFinite, Disordered, ColourFalls, Fault, fault_3, fault_4, fault_5, fault_6}
+use Rattle.acceptance.specs.Faults.{fault_7, GivenAs, Given3, Given4, Given5, Given6, Given7}
 use Rattle.acceptance.proofs.Numbers.{first_failure}
 use Rattle.acceptance.proofs.Earliest.{Has, each_has, has_after, turn, first_earliest, earliest_first}
 use Rattle.acceptance.proofs.InTurn.{fields_in_turn, fields_are, fault_fails}

@@ -4,7 +4,8 @@ use Rattle.std.specs.Float.Ieee.{is_nan}
 use Rattle.std.proofs.lemmas.Bool.{not-false}
 use Rattle.little_endian.specs.Bytes.{le16, f32_at, is_finite}
 use Rattle.records.specs.Answers.{Passed}
-use Rattle.records.specs.Fields.{finite, bound, run, scalar_codes, scalar_floats, elastic_codes, scalar_fields, corotational_fields, neo_hookean_fields, fields}
+use Rattle.records.specs.Fields.{finite, bound, run, scalar_codes, scalar_floats, elastic_codes, scalar_fields, corotational_fields}
+use Rattle.records.specs.Fields.{neo_hookean_fields, fields}
 use Rattle.records.proofs.Firsts.{passed_split}
 use Rattle.records.proofs.ByKind.{fields_3, fields_4, fields_else}
 

@@ -12,7 +12,8 @@ use Rattle.frame.specs.Check.{extra, check_of}
 use Rattle.acceptance.specs.Whole.{Whole}
 use Rattle.acceptance.specs.Given.{Given1, Given2, GivenField, Given8, Given9}
 use Rattle.acceptance.specs.Faults.{Given3, Given4, Given5, Given6, Given7}
-use Rattle.acceptance.proofs.Numbers.{number_is, place_is, refused_not, answer_split, answer_left, answer_right, first_failure, answer_from, from_answer, within_answer, shape_in, fields_in, extra_in, clash_in}
+use Rattle.acceptance.proofs.Numbers.{number_is, place_is, refused_not, answer_split, answer_left, answer_right, first_failure, answer_from}
+use Rattle.acceptance.proofs.Numbers.{from_answer, within_answer, shape_in, fields_in, extra_in, clash_in}
 use Rattle.acceptance.proofs.Wholes.{accepted_whole, whole_accepted, no_extra, extra_passes}
 use Rattle.acceptance.proofs.Reaching.{to_record, of_record, to_last, of_last}
 use Rattle.acceptance.proofs.Meets.{to_meet, of_meet}

@@ -6,9 +6,13 @@ use Rattle.std.proofs.lemmas.Bool.{not-true}
 use Rattle.little_endian.specs.Bytes.{le16, le32, f32_at, is_finite}
 use Rattle.records.specs.declared.Due.{Due}
 use Rattle.records.specs.Answers.{Test}
-use Rattle.records.specs.Fields.{limit16, limit32, code, finite, bound, ordered, cap, colour_from, run, head_fields, point_fields, scalar_codes, scalar_floats, scalar_fields, elastic_codes, corotational_fields, neo_hookean_fields, fields}
-use Rattle.records.proofs.ByKind.{Kind, a_head, a_point, a_scalar, a_corotational, a_neo_hookean, fields_1, fields_2, fields_3, fields_4, fields_else}
-use Rattle.acceptance.specs.Faults.{Is, IsElastic, IsRow, Among, FloatAt, Fault, points, rows, resweeps, count, mode, strained, type, inverted, volumetric, zero_code, of_head, of_point, of_scalar, of_corotational, of_neo_hookean, float, lower, upper, bounds, strain_cap, vol_cap, colour, fault_3, fault_4, fault_5, fault_6, fault_7}
+use Rattle.records.specs.Fields.{limit16, limit32, code, finite, bound, ordered, cap, colour_from, run, head_fields, point_fields}
+use Rattle.records.specs.Fields.{scalar_codes, scalar_floats, scalar_fields, elastic_codes, corotational_fields, neo_hookean_fields, fields}
+use Rattle.records.proofs.ByKind.{Kind, a_head, a_point, a_scalar, a_corotational, a_neo_hookean, fields_1, fields_2, fields_3, fields_4}
+use Rattle.records.proofs.ByKind.{fields_else}
+use Rattle.acceptance.specs.Faults.{Is, IsElastic, IsRow, Among, FloatAt, Fault, points, rows, resweeps, count, mode, strained, type}
+use Rattle.acceptance.specs.Faults.{inverted, volumetric, zero_code, of_head, of_point, of_scalar, of_corotational, of_neo_hookean, float}
+use Rattle.acceptance.specs.Faults.{lower, upper, bounds, strain_cap, vol_cap, colour, fault_3, fault_4, fault_5, fault_6, fault_7}
 use Rattle.acceptance.proofs.Earliest.{Has, Each, has_part, has_run, each_append, each_run, in_turn}
 
 -- ---- in turn: computed, whatever the bytes are

@@ -5,7 +5,8 @@ use Rattle.little_endian.specs.Bytes.{le16}
 use Rattle.records.specs.declared.Answer.{Answer}
 use Rattle.records.specs.declared.Due.{Due}
 use Rattle.records.specs.Answers.{Test, number_of, refused, first_of, from, first_from, Passed}
-use Rattle.records.specs.Fields.{limit16, limit32, code, finite, bound, ordered, cap, colour_from, run, head_fields, point_fields, scalar_codes, scalar_floats, scalar_fields, elastic_codes, corotational_fields, neo_hookean_fields, fields}
+use Rattle.records.specs.Fields.{limit16, limit32, code, finite, bound, ordered, cap, colour_from, run, head_fields, point_fields}
+use Rattle.records.specs.Fields.{scalar_codes, scalar_floats, scalar_fields, elastic_codes, corotational_fields, neo_hookean_fields, fields}
 use Rattle.records.specs.Records.{shape, record_tests, records_tests, record_at, record_length}
 use Rattle.records.proofs.Firsts.{Zero}
 use Rattle.clash.specs.Clash.{clash_tests, Key, key_of}

@@ -11,7 +11,8 @@ use Rattle.clash.specs.Clash.{clash_tests}
 use Rattle.frame.specs.Frames.{count_n, count_r, rows_at}
 use Rattle.frame.specs.Check.{extra, frame_tests, check_of}
 use Rattle.acceptance.specs.Given.{colour_before, Reached, at_head, at_point, at_row, AllPass}
-use Rattle.acceptance.proofs.Numbers.{refused_not, answer_split, answer_left, answer_right, within_answer, record_in, records_in, extra_in, clash_in}
+use Rattle.acceptance.proofs.Numbers.{refused_not, answer_split, answer_left, answer_right, within_answer, record_in, records_in, extra_in}
+use Rattle.acceptance.proofs.Numbers.{clash_in}
 
 -- ---- among some records
 

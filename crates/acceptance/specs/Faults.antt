@@ -5,7 +5,9 @@ use Rattle.std.specs.Float.{binary32}
 use Rattle.std.specs.Float.Ieee.{of_bits, lt, is_nan}
 use Rattle.little_endian.specs.Bytes.{le16, le32, f32_at, is_finite}
 use Rattle.records.specs.declared.Due.{Due}
-use Rattle.records.specs.Layout.{kind_at, head_points, head_rows, head_mode, head_resweeps, head_warm, head_end, point_position, point_end, row_colour, row_strained, row_pos, scalar_type, scalar_count, scalar_lower, scalar_upper, elastic_inverted, elastic_fourth, elastic_strain_cap, elastic_strain, coro_vol_cap, coro_end, neo_end}
+use Rattle.records.specs.Layout.{kind_at, head_points, head_rows, head_mode, head_resweeps, head_warm, head_end, point_position, point_end}
+use Rattle.records.specs.Layout.{row_colour, row_strained, row_pos, scalar_type, scalar_count, scalar_lower, scalar_upper, elastic_inverted}
+use Rattle.records.specs.Layout.{elastic_fourth, elastic_strain_cap, elastic_strain, coro_vol_cap, coro_end, neo_end}
 use Rattle.records.specs.Records.{is_due, record_length, record_at}
 use Rattle.acceptance.specs.Given.{Reached}
 

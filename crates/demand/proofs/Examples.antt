@@ -4,7 +4,8 @@ use Rattle.std.specs.Float.Ieee.{lt, is_nan, of_bits, to_bits}
 use Rattle.std.specs.Float.Ieee as ieee
 use Rattle.little_endian.specs.Bytes.{le16, le32, is_finite}
 use Rattle.records.specs.Answers.{accepted, first_of, from}
-use Rattle.records.specs.Fields.{limit16, limit32, code, finite, bound, ordered, cap, colour_from, run, head_fields, point_fields, scalar_codes, scalar_floats, scalar_fields, elastic_codes, corotational_fields, neo_hookean_fields, fields}
+use Rattle.records.specs.Fields.{limit16, limit32, code, finite, bound, ordered, cap, colour_from, run, head_fields, point_fields}
+use Rattle.records.specs.Fields.{scalar_codes, scalar_floats, scalar_fields, elastic_codes, corotational_fields, neo_hookean_fields, fields}
 use Rattle.records.specs.Records.{is_pair, is_due, shape, record_tests, records_tests, end_of, records, flatten}
 use Rattle.clash.specs.Clash.{count_of, key_of, any_of, named_by, clashes, clash_tests}
 use Rattle.frame.specs.Frames.{head, points, rows}
@@ -28,7 +29,8 @@ use Rattle.rows.specs.Row.{names_of, holds_of}
 use Rattle.rows.specs.Step as step
 use Rattle.rows.specs.Step.{solve_of}
 use Rattle.floats.specs.Fields.{vec3_at, four_at, mat3_at, quat_at, masses_at, ids_at, floats_at, put_vec3, put_floats}
-use Rattle.stored.specs.Read.{row_of, constraint_of, scalar_of, spring_at, response_at, corotational_of, cell_of, pose_of, compliance_of, impulses_of, springs_of, volume_of}
+use Rattle.stored.specs.Read.{row_of, constraint_of, scalar_of, spring_at, response_at, corotational_of, cell_of, pose_of, compliance_of}
+use Rattle.stored.specs.Read.{impulses_of, springs_of, volume_of}
 use Rattle.stored.specs.Put.{put_solve, solve_constraint, put_impulses}
 use Rattle.stored.specs.Points.{velocity, lose}
 use Rattle.stored.specs.Run.{swept, leaves}

@@ -3,7 +3,8 @@ use Rattle.std.proofs.Common.{◌≡◌, refl, sym, ap, List, [], ◌∷◌, ◌
 use Rattle.std.specs.Fmt as fmt
 use Rattle.std.proofs.lemmas.Fmt.{AppendsLastDigit, decimal_from_appends, length-decimal-le}
 use Rattle.records.specs.declared.Refusal.{Refusal}
-use Rattle.records.specs.declared.Refusal.TheVariants.{NotWhole, NotDue, TooMany, BadCode, NotFinite, Disordered, ColourFalls, ExtraBytes, Clash}
+use Rattle.records.specs.declared.Refusal.TheVariants.{NotWhole, NotDue, TooMany, BadCode, NotFinite, Disordered, ColourFalls, ExtraBytes}
+use Rattle.records.specs.declared.Refusal.TheVariants.{Clash}
 use Rattle.records.specs.declared.Refused.{Refused}
 use Rattle.records.specs.Answers.{number_of}
 use Rattle.records.specs.Text.{refused_text}

@@ -5,7 +5,8 @@ use Rattle.loops.specs.Loops.{cond_no}
 use Rattle.real.specs.Float.{f0, f1}
 use Rattle.real.specs.Real.{abs}
 use Rattle.strain.specs.Matrix.{from_fn, identity6}
-use Rattle.inverse.specs.Inverse.{pivot_row, swap_rows, eliminate, factor_column, factored, unit, forward_at, forward, backward_at, backward, solve_column, solved_at, invertible, try_inverse}
+use Rattle.inverse.specs.Inverse.{pivot_row, swap_rows, eliminate, factor_column, factored, unit, forward_at, forward, backward_at}
+use Rattle.inverse.specs.Inverse.{backward, solve_column, solved_at, invertible, try_inverse}
 
 -- the inverse of the identity is the identity
 pub of_identity : try_inverse identity6 ≡ identity6

@@ -8,7 +8,8 @@ use Rattle.loops.specs.Loops.{up_to, cond_yes, cond_no}
 use Rattle.real.specs.Float.{◌⊘◌, f0, f1}
 use Rattle.strain.specs.Matrix.{entry, from_fn}
 use Rattle.strain.specs.Columns.{column_of}
-use Rattle.inverse.specs.Inverse.{pivot_row, swap_rows, eliminate, Factors, swap_places, factor_column, factored, unit, forward_at, forward, backward_at, backward, solve_column, solved_at, invertible, try_inverse}
+use Rattle.inverse.specs.Inverse.{pivot_row, swap_rows, eliminate, Factors, swap_places, factor_column, factored, unit, forward_at, forward}
+use Rattle.inverse.specs.Inverse.{backward_at, backward, solve_column, solved_at, invertible, try_inverse}
 
 abbrev pub state : List Float → List ℕ → Bool → Factors
 state m rows ok = record { m = m; rows = rows; ok = ok }

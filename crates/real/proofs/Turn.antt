@@ -1,6 +1,8 @@
 -- How the code of `rem_turn` gets at a remainder by 6.2831855: from 4 on it is one of whole numbers of 2 ^ -21. Assumes nothing.
-use Rattle.std.specs.Prelude.{ℕ, zero, suc, ◌+◌, ◌-◌, ◌*◌, ◌/◌, ◌%◌, ◌^◌, ◌<◌, ◌≤◌, ◌≡◌, refl, Bool, true, false, cond, T, leb, eqb, ℤ, pos, negsuc, Float}
-use Rattle.std.proofs.Common.{sym, ap, subst, true≢false, ◌∙◌, mul_comm, mul_assoc, mul_right_comm, mul-pos, mul-lt-mul_of_pos_right, mod-lt, mod-eq_of_lt, div-add-mod', arith, ne_eqb, pow-add, pow_pos}
+use Rattle.std.specs.Prelude.{ℕ, zero, suc, ◌+◌, ◌-◌, ◌*◌, ◌/◌, ◌%◌, ◌^◌, ◌<◌, ◌≤◌, ◌≡◌, refl, Bool, true, false, cond, T, leb, eqb, ℤ, pos}
+use Rattle.std.specs.Prelude.{negsuc, Float}
+use Rattle.std.proofs.Common.{sym, ap, subst, true≢false, ◌∙◌, mul_comm, mul_assoc, mul_right_comm, mul-pos, mul-lt-mul_of_pos_right}
+use Rattle.std.proofs.Common.{mod-lt, mod-eq_of_lt, div-add-mod', arith, ne_eqb, pow-add, pow_pos}
 use Rattle.std.proofs.Math.Nat.{add-mul, mul-add-mod_self_right, eq_of_mul-eq-mul_right}
 use Rattle.std.proofs.lemmas.Nat.{mul-mod_second}
 use Rattle.std.proofs.Math.Pow.{pow_mono}

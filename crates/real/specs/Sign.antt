@@ -1,6 +1,9 @@
 -- How the code of `abs` and `signum` gets at the sign: 0 - x is exact, and the sign is the highest bit. Assumes nothing.
-use Rattle.std.specs.Prelude.{ℕ, zero, suc, ◌+◌, ◌-◌, ◌*◌, ◌/◌, ◌%◌, ◌^◌, ◌<◌, ◌≤◌, ◌≡◌, refl, not, Bool, true, false, cond, ◌&&◌, T, leb, ltb, eqb, ℤ, pos, negsuc, Float}
-use Rattle.std.proofs.Common.{sym, ap, ◌∙◌, mul-one, mul_assoc, mul_right_comm, mul-pos, mul-lt-mul_of_pos_right, lt_of_mul-lt-mul_right, lt_of_not-le, not-le_of_lt, le_of_eq, lt_of_lt_of_le, lt_of_le_of_lt, zero-mul, zero-add, one-mul, arith, le-leb, lt-ltb, eqb→eq, pow-add, pow_pos}
+use Rattle.std.specs.Prelude.{ℕ, zero, suc, ◌+◌, ◌-◌, ◌*◌, ◌/◌, ◌%◌, ◌^◌, ◌<◌, ◌≤◌, ◌≡◌, refl, not, Bool, true, false, cond, ◌&&◌, T, leb}
+use Rattle.std.specs.Prelude.{ltb, eqb, ℤ, pos, negsuc, Float}
+use Rattle.std.proofs.Common.{sym, ap, ◌∙◌, mul-one, mul_assoc, mul_right_comm, mul-pos, mul-lt-mul_of_pos_right, lt_of_mul-lt-mul_right}
+use Rattle.std.proofs.Common.{lt_of_not-le, not-le_of_lt, le_of_eq, lt_of_lt_of_le, lt_of_le_of_lt, zero-mul, zero-add, one-mul, arith}
+use Rattle.std.proofs.Common.{le-leb, lt-ltb, eqb→eq, pow-add, pow_pos}
 use Rattle.std.proofs.Math.Nat.{pow-succ'}
 use Rattle.std.proofs.lemmas.Bool.{lt-leb}
 use Rattle.std.proofs.Math.Dec.{leb→le, ltb→lt}

@@ -2,7 +2,8 @@
 use Rattle.std.proofs.Common.{ℕ, ◌+◌, ◌≡◌, refl, sym, ap, ◌∙◌, Bool, true, false, cond, List, [], ◌∷◌, ◌++◌, arith, Result, Ok, Err}
 use Rattle.records.specs.declared.Answer.{Answer}
 use Rattle.records.specs.declared.Refusal.{Refusal}
-use Rattle.records.specs.declared.Refusal.TheVariants.{NotWhole, NotDue, TooMany, BadCode, NotFinite, Disordered, ColourFalls, ExtraBytes, Clash}
+use Rattle.records.specs.declared.Refusal.TheVariants.{NotWhole, NotDue, TooMany, BadCode, NotFinite, Disordered, ColourFalls, ExtraBytes}
+use Rattle.records.specs.declared.Refusal.TheVariants.{Clash}
 use Rattle.records.specs.declared.Refused.{Refused}
 use Rattle.records.specs.Answers.{number_of, Test, refused, accepted, first_of, from, Passed, outcome, outcome_from, answer_of}
 

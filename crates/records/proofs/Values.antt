@@ -3,7 +3,8 @@ use Rattle.std.proofs.Common.{ℕ, ◌≤◌, ◌≡◌, sym, subst, List, arith
 use Rattle.little_endian.specs.Bytes.{le16, le32}
 use Rattle.records.specs.declared.Due.TheVariants.{Row}
 use Rattle.records.specs.Answers.{Passed, ◌then◌}
-use Rattle.records.specs.Fields.{limit16, limit32, code, colour_from, run, finite, ordered, cap, scalar_codes, scalar_floats, elastic_codes, head_fields, scalar_fields, corotational_fields, neo_hookean_fields, fields}
+use Rattle.records.specs.Fields.{limit16, limit32, code, colour_from, run, finite, ordered, cap, scalar_codes, scalar_floats, elastic_codes}
+use Rattle.records.specs.Fields.{head_fields, scalar_fields, corotational_fields, neo_hookean_fields, fields}
 use Rattle.records.proofs.Firsts.{passed_split, passed_join}
 use Rattle.records.proofs.ByKind.{Kind, a_scalar, a_corotational, a_neo_hookean, fields_1, fields_3, fields_4, fields_else}
 

@@ -4,7 +4,9 @@ use Rattle.std.specs.Prelude.{ℕ, zero, suc, ◌+◌, cond, not, List, [], ltb,
 use Rattle.std.specs.Float.{binary32}
 use Rattle.std.specs.Float.Ieee.{of_bits, lt, is_nan}
 use Rattle.little_endian.specs.Bytes.{le16, le32, f32_at, is_finite}
-use Rattle.records.specs.Layout.{kind_at, head_points, head_rows, head_mode, head_resweeps, head_warm, point_position, row_colour, row_strained, row_pos, scalar_type, scalar_count, scalar_lower, scalar_upper, elastic_inverted, elastic_fourth, elastic_strain_cap, coro_vol_cap}
+use Rattle.records.specs.Layout.{kind_at, head_points, head_rows, head_mode, head_resweeps, head_warm, point_position, row_colour}
+use Rattle.records.specs.Layout.{row_strained, row_pos, scalar_type, scalar_count, scalar_lower, scalar_upper, elastic_inverted}
+use Rattle.records.specs.Layout.{elastic_fourth, elastic_strain_cap, coro_vol_cap}
 use Rattle.records.specs.declared.Refusal.TheVariants.{TooMany, BadCode, NotFinite, Disordered, ColourFalls}
 use Rattle.records.specs.Answers.{Test, ◌then◌, refuse}
 

@@ -1,5 +1,6 @@
 -- Values in the words of a record, from word k on: a float is its bits, a matrix goes column by column. Definitions only. Assumes nothing.
-use Rattle.std.specs.Prelude.{◌≡◌, refl, ℕ, ◌+◌, ◌<◌, ◌*◌, ◌/◌, ◌≤◌, Bool, true, false, ◌&&◌, List, [], ◌∷◌, length, get_or, drop, ◌++◌, ◌==◌, from_bits, slice_index, to_bits, Float}
+use Rattle.std.specs.Prelude.{◌≡◌, refl, ℕ, ◌+◌, ◌<◌, ◌*◌, ◌/◌, ◌≤◌, Bool, true, false, ◌&&◌, List, [], ◌∷◌, length, get_or, drop, ◌++◌}
+use Rattle.std.specs.Prelude.{◌==◌, from_bits, slice_index, to_bits, Float}
 use Rattle.std.specs.Float.{binary32}
 use Rattle.std.proofs.Common.{◌∙◌, ap, sym, arith, ext_get_or}
 use Rattle.std.proofs.Math.Nat.{lt-div-mul-add, div-eq_of_lt-le}

@@ -10,7 +10,8 @@ use Rattle.places.specs.Places.{Holds}
 use Rattle.scalar.specs.Row as s
 use Rattle.corotational.specs.Row as co
 use Rattle.neo_hookean.specs.Row as nh
-use Rattle.rows.specs.Row.{Row, Constraint, scalar, corotational, neo_hookean, Key, key_of, names_of, masses_of, holds_of, keep_if, in_range, losses_of}
+use Rattle.rows.specs.Row.{Row, Constraint, scalar, corotational, neo_hookean, Key, key_of, names_of, masses_of, holds_of, keep_if}
+use Rattle.rows.specs.Row.{in_range, losses_of}
 use Rattle.rows.specs.Step.{update_of, warmstart_of, solve_of, update, warm, solve, by}
 
 -- ---- the points that a row writes: those that it names and that are in range

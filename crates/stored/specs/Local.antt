@@ -19,7 +19,9 @@ use Rattle.rows.specs.Row.{Row, Key, Constraint, scalar, corotational, neo_hooke
 use Rattle.rows.specs.Local as rows
 use Rattle.floats.specs.Fields.{floats_at, put_f32, put_four, put_mat3, put_quat, put_floats}
 use Rattle.stored.specs.Read.{row_of}
-use Rattle.stored.specs.Put.{put_flag, put_response, put_scalar, put_pose, put_volume, put_corotational, put_renewed, put_block, put_neo_hookean, put_constraint, put_update, put_impulses, warm_constraint, put_warm, solve_constraint, put_solve}
+use Rattle.stored.specs.Put.{put_flag, put_response, put_scalar, put_pose, put_volume, put_corotational, put_renewed, put_block}
+use Rattle.stored.specs.Put.{put_neo_hookean, put_constraint, put_update, put_impulses, warm_constraint, put_warm, solve_constraint}
+use Rattle.stored.specs.Put.{put_solve}
 use Rattle.stored.specs.Points.{position, velocity, lose, Points, only, update, warm, solve, main_step, resweep_step}
 use Rattle.stored.specs.Kept.{Kept, Clear, f32_kept, four_kept, mat3_kept, quat_kept, floats_kept, flag_kept, key_kept}
 

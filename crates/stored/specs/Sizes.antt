@@ -23,7 +23,9 @@ use Rattle.floats.proofs.Lengths.{length-put_f32, length-put_vec3, length-put_fo
 use Rattle.rows.specs.Step as step
 use Rattle.rows.specs.Step.{update_of, strained_of}
 use Rattle.stored.specs.Read.{row_of, constraint_of}
-use Rattle.stored.specs.Put.{put_flag, put_response, put_scalar, put_pose, put_volume, put_corotational, put_renewed, put_block, put_neo_hookean, put_constraint, put_update, put_impulses, warm_constraint, put_warm, solve_constraint, put_solve}
+use Rattle.stored.specs.Put.{put_flag, put_response, put_scalar, put_pose, put_volume, put_corotational, put_renewed, put_block}
+use Rattle.stored.specs.Put.{put_neo_hookean, put_constraint, put_update, put_impulses, warm_constraint, put_warm, solve_constraint}
+use Rattle.stored.specs.Put.{put_solve}
 use Rattle.stored.specs.Phases.{update_row, warm_row, solve_row}
 use Rattle.stored.specs.Points.{position, velocity, lose, Points, only, by, update, warm, solve, main_step, resweep_step}
 use Rattle.stored.specs.Kept.{Kept, flag_kept}

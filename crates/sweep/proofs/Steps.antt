@@ -12,7 +12,8 @@ use Rattle.stored.specs.Read.{row_of}
 use Rattle.stored.specs.Phases.{names_at, is_strained_at, update_row, warm_row, warm_loss, solve_row, solve_loss}
 use Rattle.stored.specs.Points.{Points, position, velocity, lose, update, warm, solve}
 use Rattle.stored.specs.Sizes.{update_steady, warm_steady, solve_steady, lose_alike}
-use Rattle.stored.specs.PhaseLaws.{names_on, names_are, update_names, warm_names, strained_is, positions_on, velocities_on, update_is, update_leaves, warm_is, warm_loses, solve_is, solve_loses}
+use Rattle.stored.specs.PhaseLaws.{names_on, names_are, update_names, warm_names, strained_is, positions_on, velocities_on, update_is}
+use Rattle.stored.specs.PhaseLaws.{update_leaves, warm_is, warm_loses, solve_is, solve_loses}
 use Rattle.floats.specs.Written.{AllWritten}
 use Rattle.points.specs.InFrame.{on_part, holds_in, taken}
 use Rattle.points.proofs.Bridge.{holds_bridge, taken_bridge}

@@ -6,7 +6,8 @@ use Rattle.records.specs.Records.{record_length, flatten}
 use Rattle.relisting.specs.Steps.{sweep}
 use Rattle.stored.specs.Points.{Points, update, warm}
 use Rattle.stored.specs.Run.{lay}
-use Rattle.stored.specs.Sizes.{Steady, then_steady, update_steady, warm_steady, solve_steady, resweep_steady, nothing_steady, sweep_rows, sweep_points, same_length}
+use Rattle.stored.specs.Sizes.{Steady, then_steady, update_steady, warm_steady, solve_steady, resweep_steady, nothing_steady, sweep_rows}
+use Rattle.stored.specs.Sizes.{sweep_points, same_length}
 use Rattle.points.specs.InFrame.{Sized}
 use Rattle.sweep.specs.Laid.{RowSized, RowsSized, At, Standing, Stepped, if_some, step_of, Laid, Ready, Swept}
 use Rattle.sweep.specs.declared.Turn.{Turn}

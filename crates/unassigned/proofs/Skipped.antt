@@ -11,7 +11,8 @@ use Rattle.rows.specs.Row.{nobody, places, value_of, held_at, holds_of}
 use Rattle.stored.specs.Phases.{names_at}
 use Rattle.stored.specs.Points.{Points, position}
 use Rattle.stored.specs.PhaseLaws.{names_on, names_are, positions_on}
-use Rattle.unassigned.specs.Assigned.{Field, floats, ◌and◌, when, Outside, positions, gradients, scalar_update, pose_update, volume_update, block_update, is_still_fresh, assigned_in_update, assigned_in_warm, assigned_in_solve}
+use Rattle.unassigned.specs.Assigned.{Field, floats, ◌and◌, when, Outside, positions, gradients, scalar_update, pose_update, volume_update}
+use Rattle.unassigned.specs.Assigned.{block_update, is_still_fresh, assigned_in_update, assigned_in_warm, assigned_in_solve}
 use Rattle.unassigned.specs.Stays.{assigned_in_main}
 
 outside_join : (k : ℕ) (fs gs : List Field) → Outside k fs → Outside k gs → Outside k (fs ++ gs)

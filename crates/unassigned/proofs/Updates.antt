@@ -21,9 +21,11 @@ use Rattle.rows.specs.Step.{update_of, strained_of}
 use Rattle.floats.specs.Fields.{four_at, put_f32, put_four, put_mat3, put_quat, put_floats}
 use Rattle.acceptance.specs.Whole.{Good}
 use Rattle.stored.specs.Read.{scalar_of, spring_at, pose_of, corotational_of, neo_hookean_of, constraint_of}
-use Rattle.stored.specs.Put.{put_flag, put_response, put_scalar, put_pose, put_volume, put_corotational, put_renewed, put_block, put_neo_hookean, put_constraint}
+use Rattle.stored.specs.Put.{put_flag, put_response, put_scalar, put_pose, put_volume, put_corotational, put_renewed, put_block}
+use Rattle.stored.specs.Put.{put_neo_hookean, put_constraint}
 use Rattle.stored.specs.Phases.{update_row}
-use Rattle.unassigned.specs.Assigned.{floats, ◌and◌, when, Out, Outside, positions, scalar_update, pose_update, volume_update, block_update, is_still_fresh, assigned_in_update}
+use Rattle.unassigned.specs.Assigned.{floats, ◌and◌, when, Out, Outside, positions, scalar_update, pose_update, volume_update, block_update}
+use Rattle.unassigned.specs.Assigned.{is_still_fresh, assigned_in_update}
 use Rattle.unassigned.proofs.Beside.{outside_split, flag_beside, f32_beside, four_beside, mat3_beside, quat_beside, floats_beside}
 use Rattle.unassigned.proofs.Back.{Agree, Finite12, bytes_put_flag, bytes_put_four, positions_stay, gradients_stay}
 use Rattle.unassigned.proofs.Finite.{good_pos, good_grad}

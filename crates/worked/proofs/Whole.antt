@@ -19,7 +19,8 @@ use Rattle.rows.specs.Row as row
 use Rattle.rows.specs.Step as step
 use Rattle.little_endian.specs.Bytes.{le16, le32, is_finite}
 use Rattle.records.specs.Answers.{first_of, from}
-use Rattle.records.specs.Fields.{limit16, limit32, code, finite, bound, ordered, cap, colour_from, run, head_fields, point_fields, scalar_codes, scalar_floats, scalar_fields, elastic_codes, corotational_fields, neo_hookean_fields, fields}
+use Rattle.records.specs.Fields.{limit16, limit32, code, finite, bound, ordered, cap, colour_from, run, head_fields, point_fields}
+use Rattle.records.specs.Fields.{scalar_codes, scalar_floats, scalar_fields, elastic_codes, corotational_fields, neo_hookean_fields, fields}
 use Rattle.records.specs.Records.{is_pair, is_due, shape, record_tests, records_tests, records, end_of, flatten}
 use Rattle.clash.specs.Clash.{count_of, key_of, any_of, named_by, clashes, clash_tests}
 use Rattle.frame.specs.Check.{extra, frame_tests, check_of}
