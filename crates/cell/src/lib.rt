@@ -30,6 +30,7 @@ pub struct Pose {
     pub rotation: Quat,
     pub rot_mat: Mat3,
     pub strain: [f32; 6],
+    // A fact of the row, as in the Rust: no other field is valid only with it.
     pub inverted: bool,
 }
 

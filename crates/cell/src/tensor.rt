@@ -20,6 +20,7 @@ pub fn strain_rows_of(m: Mat3) -> [f32; 6]
     ]
 }
 
+// Not one function with a factor: by 1 it would multiply for nothing.
 #[tactic(auto, unfolding(crate::specs::Strain::strain_rows_dual))]
 pub fn strain_rows_dual(m: Mat3) -> [f32; 6]
     ensures { result ≡ spec.strain_rows_dual m }
@@ -34,30 +35,15 @@ pub fn strain_rows_dual(m: Mat3) -> [f32; 6]
     ]
 }
 
-#[tactic(auto, unfolding(crate::specs::Strain::strain_tensor))]
+// The halves are made before the list: made in it, a cell's losses took 23.7 ns for 23.3.
+#[tactic(auto, unfolding(crate::specs::Strain::strain_tensor, crate::specs::Strain::strain_matrix))]
 pub fn strain_tensor(l: &[f32; 6]) -> Mat3
     ensures { result ≡ spec.strain_tensor l.now }
 {
     let h01 = 0.5 * l[3];
     let h02 = 0.5 * l[4];
     let h12 = 0.5 * l[5];
-    Mat3 {
-        x: Vec3 {
-            x: l[0],
-            y: h01,
-            z: h02,
-        },
-        y: Vec3 {
-            x: h01,
-            y: l[1],
-            z: h12,
-        },
-        z: Vec3 {
-            x: h02,
-            y: h12,
-            z: l[2],
-        },
-    }
+    strain_matrix(&[l[0], l[1], l[2], h01, h02, h12])
 }
 
 #[tactic(auto, unfolding(crate::specs::Strain::strain_matrix))]
@@ -135,17 +121,14 @@ fn block_column(k: Vec3, gk: Vec3, l: Vec3, gl: Vec3) -> [f32; 6]
 }
 
 // A 6x6 matrix of its columns, stored one by one: gathered by `from_fn` it took 98 ns for 10 to 17.
-#[tactic(auto, unfolding(crate::specs::Columns::from_columns))]
+#[tactic(auto, using(loops::specs::Loops::counted), unfolding(crate::specs::Columns::from_columns))]
 pub fn from_columns(c: &[[f32; 6]; 6]) -> [f32; 36]
     ensures { result ≡ columns.from_columns c.now }
 {
     let mut r = [0.0f32; 36];
-    strain::set_column(&mut r, 0, &c[0]);
-    strain::set_column(&mut r, 1, &c[1]);
-    strain::set_column(&mut r, 2, &c[2]);
-    strain::set_column(&mut r, 3, &c[3]);
-    strain::set_column(&mut r, 4, &c[4]);
-    strain::set_column(&mut r, 5, &c[5]);
+    for (j, column) in c.iter().enumerate() {
+        strain::set_column(&mut r, j, column);
+    }
     r
 }
 

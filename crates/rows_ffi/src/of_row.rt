@@ -43,11 +43,7 @@ fn all_written(b: &[u8], n: usize) -> bool
 fn is_row(b: &[u8]) -> bool
     ensures { result ≡ spec.is_row b.now }
 {
-    if is_record(b) {
-        let n = (b.len() - layout::ROW_POS) / 4;
-        return all_written(b, n);
-    }
-    false
+    is_record(b) && all_written(b, (b.len() - layout::ROW_POS) / 4)
 }
 
 #[unsafe(no_mangle)]
