@@ -65,6 +65,7 @@ pub trait Field: Copy {
 }
 
 // A field of which several stand one after another.
+// Not a const of `Field`: of a `Four` it would be `4 * T::FLOATS`, and no clause can say of each T that this fits a usize.
 pub trait Element: Field {
     ghost FLOATS: { ℕ };
 
@@ -105,7 +106,7 @@ impl Field for f32 {
 }
 
 impl Element for f32 {
-    ghost FLOATS = { 1 };
+    ghost FLOATS = { Self.floats };
 
     const FLOATS: usize = 1;
 
@@ -138,7 +139,7 @@ impl Field for Vec3 {
 }
 
 impl Element for Vec3 {
-    ghost FLOATS = { 3 };
+    ghost FLOATS = { Self.floats };
 
     const FLOATS: usize = 3;
 

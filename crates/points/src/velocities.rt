@@ -17,6 +17,7 @@ fn velocity_at(i: usize) -> usize
 }
 
 // Takes those of as many points as v has out of the frame.
+// `Points` holds these bounds of a frame that is only read; here and in `scatter` the frame or v is altered.
 pub fn gather(s: &[u8], v: &mut [Vec3])
     requires { (length v.old ≤ 4096) × (26 + 30 * length v.old ≤ length s.now) }
     ensures apart { Apart (length v.old) s.now v.new }
@@ -41,8 +42,7 @@ pub fn scatter(v: &[Vec3], s: &mut [u8])
 fn held(v: &[Vec3], id: u32) -> Option<Vec3>
     ensures { result ≡ held_of (length v.now) v.now id }
 {
-    let i = id as usize;
-    let x = if i < v.len() { v[i] } else { Vec3::zero() };
+    let x = v.get(id as usize).copied().unwrap_or(Vec3::zero());
     named(id, x)
 }
 
@@ -54,7 +54,7 @@ pub fn of(v: &[Vec3], i: Ids) -> Holds
     i.map(|id| held(v, id))
 }
 
-// Of a value its type says that it is three f32, of the elements of a slice none does: so a velocity is read by a function.
+// A result's type says that its three floats are f32, which the proof of `take_at` needs; of a slice's element no clause says it.
 fn read(v: &[Vec3], i: usize) -> Vec3
     requires { i < length v.now }
     ensures { result ≡ vec_of v.now i }
