@@ -51,7 +51,7 @@ impl<'a> Points<'a> {
     fn position(self, id: u32) -> Option<Vec3>
         ensures { result ≡ held_in position self.entry.count self.entry.frame.now id }
     {
-        let i = id as usize;
+        let i = id as usize; // usize has no `From` of u32
         let x = if i < self.count {
             floats::vec3_at(self.point(i), layout::POINT_POSITION)
         } else {

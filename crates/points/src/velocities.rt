@@ -42,6 +42,7 @@ pub fn scatter(v: &[Vec3], s: &mut [u8])
 fn held(v: &[Vec3], id: u32) -> Option<Vec3>
     ensures { result ≡ held_of (length v.now) v.now id }
 {
+    // `as`, here and below: usize has no `From` of u32.
     let x = v.get(id as usize).copied().unwrap_or(Vec3::zero());
     named(id, x)
 }

@@ -18,7 +18,7 @@ fn is_record(b: &[u8]) -> bool
     let Ok(kind) = Kind::try_from(little_endian::get_u16(b, layout::KIND_AT)) else {
         return false;
     };
-    let n = little_endian::get_u32(b, 0);
+    let n = little_endian::get_u32(b, 0); // `as` below: usize has no `From` of u32
     kind.due() == Due::Row && 4 + (n as usize) == b.len() && kind.length() <= n
 }
 
