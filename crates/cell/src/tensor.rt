@@ -6,21 +6,14 @@ ghost use Rattle.cell.specs.Strain as spec;
 use places::Masses;
 use vector::{Four, Mat3, Vec3};
 
-#[tactic(auto, unfolding(crate::specs::Strain::strain_rows_of))]
+#[tactic(auto, unfolding(crate::specs::Strain::strain_rows_of, crate::specs::Strain::strain_rows_dual))]
 pub fn strain_rows_of(m: Mat3) -> [f32; 6]
     ensures { result ≡ spec.strain_rows_of m }
 {
-    [
-        m.x.x,
-        m.y.y,
-        m.z.z,
-        0.5 * (m.y.x + m.x.y),
-        0.5 * (m.z.x + m.x.z),
-        0.5 * (m.z.y + m.y.z),
-    ]
+    let s = strain_rows_dual(m);
+    [s[0], s[1], s[2], 0.5 * s[3], 0.5 * s[4], 0.5 * s[5]]
 }
 
-// Not one function with a factor: by 1 it would multiply for nothing.
 #[tactic(auto, unfolding(crate::specs::Strain::strain_rows_dual))]
 pub fn strain_rows_dual(m: Mat3) -> [f32; 6]
     ensures { result ≡ spec.strain_rows_dual m }
@@ -73,7 +66,7 @@ pub fn strain_matrix(e: &[f32; 6]) -> Mat3
 fn outer_column(a: Four<Vec3>, k: Four<f32>) -> Vec3
     ensures { result ≡ spec.outer_column a k.a k.b k.c k.d }
 {
-    Vec3::zero() + a.a * k.a + a.b * k.b + a.c * k.c + a.d * k.d
+    a.zip(k, |a, k| a * k).fold(Vec3::zero(), |sum, x| sum + x)
 }
 
 #[tactic(auto, unfolding(crate::specs::Strain::outer_sum))]

@@ -5,6 +5,7 @@ ghost use Rattle.std.specs.Prelude.{◌≡◌, ◌≤◌, length};
 ghost use Rattle.records.specs.Layout as at;
 ghost use Rattle.strain.specs.Matrix.{mat_vec};
 ghost use Rattle.cell.specs.Cell as cell;
+ghost use Rattle.floats.specs.Fields.{mat3_at};
 ghost use Rattle.floats.specs.Written.{Kept};
 ghost use Rattle.stored.specs.Read.{cell_of, pose_of, compliance_of, impulses_of};
 ghost use Rattle.stored.specs.Put.{put_flag, put_pose, put_impulses};
@@ -20,7 +21,7 @@ use stored::put_flag;
 use vector::{Four, Mat3, Vec3};
 
 // The bytes of an elastic row, as far as both kinds have the same fields.
-pub type ElasticBytes<'a> = RowBytes<'a, 450>;
+pub type ElasticBytes<'a> = RowBytes<'a, { layout::ELASTIC_END }>;
 
 // Each put here asks for the length. A type that held it beside the `&mut` was tried: each put then had to ensure that it keeps the same
 // reference. Kept passes AllWritten on, which such a type would ask of callers.
@@ -104,6 +105,16 @@ pub fn impulses_of(b: ElasticBytes) -> Impulses
         strain: b.get(layout::ELASTIC_STRAIN_IMPULSE),
         vol: b.get(layout::ELASTIC_VOL_IMPULSE),
     }
+}
+
+// The strain rows under the stored rotation, and the impulses: what a warm start and a solve begin with.
+#[inline(always)]
+pub fn rows_and_impulses(b: ElasticBytes) -> (StrainRows, Impulses)
+    ensures rows { result.0 ≡ strain_rows (mat3_at b.entry.bytes.now at.elastic_rot_mat) b.entry.bytes.now }
+    ensures impulses { result.1 ≡ impulses_of b.entry.bytes.now }
+{
+    let rot = b.get(layout::ELASTIC_ROT_MAT);
+    (strain_rows(b, rot), impulses_of(b))
 }
 
 #[tactic(auto, unfolding(stored::specs::Put::put_impulses))]

@@ -27,10 +27,8 @@ fn volumetric_gradient(f: Mat3, inv_rest: Mat3) -> Four<Vec3>
 fn volume_weight(g: Four<Vec3>, im: Masses) -> f32
     ensures { result ≡ spec.volume_weight g im }
 {
-    0.0 + im.a * g.a.length_squared()
-        + im.b * g.b.length_squared()
-        + im.c * g.c.length_squared()
-        + im.d * g.d.length_squared()
+    im.zip(g, |w, g| w * g.length_squared())
+        .fold(0.0, |sum, x| sum + x)
 }
 
 #[tactic(auto, unfolding(crate::specs::Corotational::turned_gradients, crate::specs::Corotational::turned_back))]

@@ -10,7 +10,7 @@ ghost use Rattle.stored.specs.Put.{put_volume};
 ghost use Rattle.corotational_record.specs.Parts as spec;
 
 use cell::{Impulses, Pose, StrainRows};
-use cell_record::{compliance_of, impulses_of, strain_rows};
+use cell_record::{compliance_of, rows_and_impulses, strain_rows};
 use corotational::{Springs, Volume};
 use floats::Field;
 use floats::row_bytes::RowBytes;
@@ -38,7 +38,7 @@ fn springs_of(b: Bytes) -> Springs
 }
 
 // With f the deformation gradient of the same update.
-#[tactic(auto, unfolding(crate::specs::Parts::volume_anew, cell_record::specs::Rows::strain_rows,))]
+#[tactic(auto, unfolding(crate::specs::Parts::volume_anew, cell_record::specs::Rows::strain_rows))]
 fn volume_anew(b: Bytes, pose: &Pose, f: Mat3) -> Volume
     ensures { result ≡ spec.volume_anew pose.now.rot_mat pose.now.inverted f b.entry.bytes.now }
 {
@@ -97,8 +97,7 @@ pub fn put_updated(b: &mut [u8], u: Update, least: f32)
 pub fn warmed(b: Bytes, coeff: f32) -> Solved<Impulses>
     ensures { result ≡ c.warmstart (corotational_of b.entry.bytes.now) coeff }
 {
-    let rows = strain_rows(b.at_least(), b.get(layout::ELASTIC_ROT_MAT));
-    let l = impulses_of(b.at_least());
+    let (rows, l) = rows_and_impulses(b.at_least());
     let grad = b.get(layout::CORO_GRAD_VOL);
     corotational::block::warmstart_corotational(rows, l, grad, coeff)
 }
@@ -136,8 +135,7 @@ fn strain_step(b: Bytes, rows: StrainRows, impulse: &[f32; 6], vel: Holds) -> [f
 pub fn solved(b: Bytes, vel: Holds) -> Solved<Impulses>
     ensures { result ≡ c.solve (corotational_of b.entry.bytes.now) vel }
 {
-    let rows = strain_rows(b.at_least(), b.get(layout::ELASTIC_ROT_MAT));
-    let l = impulses_of(b.at_least());
+    let (rows, l) = rows_and_impulses(b.at_least());
     let y = strain_step(b, rows, &l.strain, vel);
     let u = volume_of(b);
     corotational::block::solve_rows(rows, l, u, vel, &y)

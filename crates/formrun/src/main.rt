@@ -37,7 +37,8 @@ fn serve<R: Read, W: Write>(alloc: Global, input: &mut R, output: &mut W) -> io:
     ensures { OnOk result (IfSome (R.remaining input.old) (λ xs. Appends (W.contents output.old) (W.contents output.new) (output_of xs))) }
 {
     let mut frame = Vec::new(alloc);
-    input.take(65537).read_to_end(&mut frame)?;
+    // `as`: u64 has no `From` of usize.
+    input.take(MOST as u64 + 1).read_to_end(&mut frame)?;
     answer(&mut frame, output)
 }
 

@@ -7,7 +7,7 @@ ghost use Rattle.records.specs.Outcomes.{refusal_of};
 ghost use Rattle.records.specs.Records.{records_tests, end_of};
 ghost use Rattle.frame.specs.Check.{check_of};
 
-use records::{Due, Refusal, Refused, layout};
+use records::{Due, Head, Refusal, Refused, layout};
 
 // The tests of k records, the first at `at`, each of what is due: the place behind the last of them.
 fn records_test(due: Due, k: usize, s: &[u8], at: usize) -> Result<usize, Refused>
@@ -33,9 +33,8 @@ pub fn check(frame: &[u8]) -> Result<(), Refused>
     ensures { answer_of result ≡ check_of frame.now }
 {
     records::record_test(Due::Head, frame, 0, 0)?;
-    // `as`: usize has no `From` of u32.
-    let n = little_endian::get_u32(frame, layout::HEAD_POINTS) as usize;
-    let r = little_endian::get_u32(frame, layout::HEAD_ROWS) as usize;
+    let head = Head { bytes: frame };
+    let (n, r) = (head.points(), head.rows());
     let at = records_test(Due::Point, n, frame, layout::HEAD_END)?;
     let end = records_test(Due::Row, r, frame, at)?;
     records::refuse(end < frame.len(), Refusal::ExtraBytes, end)?;

@@ -83,7 +83,7 @@ fn rotate_rows<const P: usize, const Q: usize>(m: Rows, g: Rotation) -> Rows
     a
 }
 
-// Jᵀ A J.
+// Jᵀ A J. By a match, as V J: a closure for `map_or`, in a function with const parameters, would have to have its clauses written out.
 #[tactic(auto, unfolding(crate::specs::Steps::turn_matrix))]
 pub(crate) fn turn_matrix<const P: usize, const Q: usize>(a: Rows, g: Option<Rotation>) -> Rows
     requires { (P < 3) × (Q < 3) }

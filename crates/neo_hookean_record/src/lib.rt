@@ -11,7 +11,7 @@ ghost use Rattle.stored.specs.Read.{material_of, stiffness_of, neo_hookean_of};
 ghost use Rattle.neo_hookean_record.specs.Parts as spec;
 
 use cell::{Impulses, Pose, StrainRows};
-use cell_record::{impulses_of, put_pose, strain_rows};
+use cell_record::{put_pose, rows_and_impulses};
 use energy::{Energy, Lame};
 use floats::Field;
 use floats::row_bytes::RowBytes;
@@ -123,8 +123,7 @@ pub fn put_updated(b: &mut [u8], u: &Update, least: f32)
 pub fn warmed(b: Bytes, coeff: f32) -> Solved<Impulses>
     ensures { result ≡ n.warmstart (neo_hookean_of b.entry.bytes.now) coeff }
 {
-    let rows = strain_rows(b.at_least(), b.get(layout::ELASTIC_ROT_MAT));
-    let l = impulses_of(b.at_least());
+    let (rows, l) = rows_and_impulses(b.at_least());
     neo_hookean::iteration::warmstart_neo_hookean(rows, l, coeff)
 }
 
@@ -155,8 +154,7 @@ fn strain_step(b: Bytes, rows: StrainRows, impulse: &[f32; 6], vel: Holds) -> [f
 pub fn solved(b: Bytes, vel: Holds) -> Solved<Impulses>
     ensures { result ≡ n.solve (neo_hookean_of b.entry.bytes.now) vel }
 {
-    let rows = strain_rows(b.at_least(), b.get(layout::ELASTIC_ROT_MAT));
-    let l = impulses_of(b.at_least());
+    let (rows, l) = rows_and_impulses(b.at_least());
     let d = strain_step(b, rows, &l.strain, vel);
     neo_hookean::iteration::applied(rows, l, &d)
 }

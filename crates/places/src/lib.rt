@@ -52,6 +52,5 @@ fn plus(sum: f32, rate: Option<f32>) -> f32
 pub fn rate_of(grad: Four<Vec3>, vel: Holds) -> f32
     ensures { result ≡ spec.rate_of grad vel }
 {
-    let rates = grad.zip(vel, |g, v| rate_at(g, v));
-    plus(plus(plus(plus(0.0, rates.a), rates.b), rates.c), rates.d)
+    grad.zip(vel, rate_at).fold(0.0, plus)
 }

@@ -12,7 +12,7 @@ use places::{Holds, Ids, NOBODY};
 use records::layout;
 use vector::Vec3;
 
-// Where the record of point i starts.
+// Where the record of point i starts. The bound, here and in `velocity_at`, is the index's own: a type for it would be taken apart here.
 fn place_of(i: usize) -> usize
     requires { i ≤ 4096 }
     ensures { result ≡ place_of i }
@@ -46,7 +46,7 @@ impl<'a> Points<'a> {
         &self.frame[off..off + layout::POINT_END]
     }
 
-    // As `velocities::held`, over bytes.
+    // As `velocities::held`, over bytes; one function for both would take a closure for the reading.
     #[tactic(auto, unfolding(crate::specs::InFrame::held_in, stored::specs::Points::position))]
     fn position(self, id: u32) -> Option<Vec3>
         ensures { result ≡ held_in position self.entry.count self.entry.frame.now id }

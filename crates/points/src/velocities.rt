@@ -69,6 +69,7 @@ fn take_at(v: &mut [Vec3], id: u32, x: Vec3)
     ensures fit { FitAt (length v.old) v.old id }
 {
     let i = id as usize;
+    // By index: the contract of `get_mut` does not say what the slice holds after it.
     if i < v.len() {
         v[i] = read(v, i) - x;
     }

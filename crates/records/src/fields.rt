@@ -130,11 +130,7 @@ impl Fields<'_> {
         requires { k + 4 * n ≤ length self.now.bytes.now }
         ensures { result ≡ all_finite self.now.bytes.now k n }
     {
-        let mut all = true;
-        for i in 0..n {
-            all &= little_endian::is_finite_at(self.bytes, k + 4 * i);
-        }
-        all
+        (0..n).all(|i| little_endian::is_finite_at(self.bytes, k + 4 * i))
     }
 
     // The test of n floats, one after another from byte k on.

@@ -100,6 +100,8 @@ pub const ELASTIC_STRAIN_IMPULSE: usize = 422;
 // `vol_impulse`, f32
 pub const ELASTIC_VOL_IMPULSE: usize = 446;
 
+pub const ELASTIC_END: usize = 450;
+
 // ---- corotational row: 618 bytes
 
 // `erp_strain`, 6 f32

@@ -11,10 +11,12 @@ ghost use Rattle.records.specs.Text.{refused_text};
 ghost use Rattle.records.specs.Records.{is_due, record_length, record_at, shape, record_tests};
 
 mod fields;
+mod head;
 mod kinds;
 pub mod layout;
 
 use fields::Fields;
+pub use head::Head;
 pub use kinds::{Kind, RowKind, UnknownKind};
 use std::fmt;
 

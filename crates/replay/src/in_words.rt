@@ -8,7 +8,7 @@ use std::array::from_fn;
 use vector::{Four, Mat3, Quat, Vec3};
 
 // Of any words, where `floats::Field` asks for a NaN's one pattern. k is the number of a value's first word: `Record`'s two methods pass
-// its bound on.
+// its bound on, and a type for it would be made and taken apart at each value.
 pub trait InWords: Drop {
     ghost WORDS: { ℕ };
 

@@ -18,15 +18,14 @@ const ENTRY: usize = 22;
 // It only writes, which no contract can say.
 fn main(rt: HostRuntime) -> io::Result<()> {
     let bytes = fs::read(&rt, "frames")?;
-    let t = match bytes.split_first_chunk::<BASE>() {
-        Some((base, entries)) => replay(base, entries),
-        None => Tally::NONE,
-    };
+    let t = bytes
+        .split_first_chunk::<BASE>()
+        .map_or(Tally::NONE, |(base, entries)| replay(base, entries));
     println!(rt; "{} frames, {} answered otherwise", t.records, t.differ)
 }
 
 // How many entries there are, and how many of them check answers otherwise than stored.
-fn replay(base: &[u8; 4096], entries: &[u8]) -> Tally
+fn replay(base: &[u8; BASE], entries: &[u8]) -> Tally
     ensures counted { spec.Counted base.now result.records result.differ }
     ensures all { (22 * result.records ≤ length entries.now) × (length entries.now < 22 * result.records + 22) }
 {
@@ -41,22 +40,18 @@ fn replay(base: &[u8; 4096], entries: &[u8]) -> Tally
 }
 
 // One entry: so many bytes of the base, two of its fields replaced, and the answer that is wanted.
-fn as_stored(base: &[u8; 4096], entry: &[u8; 22]) -> bool
+fn as_stored(base: &[u8; BASE], entry: &[u8; ENTRY]) -> bool
     ensures { result ≡ spec.as_stored base.now entry.now }
 {
     let mut frame = *base;
-    put(
-        &mut frame,
-        get_u16(entry, 2),
-        get_u16(entry, 4),
-        get_u32(entry, 6),
-    );
-    put(
-        &mut frame,
-        get_u16(entry, 10),
-        get_u16(entry, 12),
-        get_u32(entry, 14),
-    );
+    for k in [2, 10] {
+        put(
+            &mut frame,
+            get_u16(entry, k),
+            get_u16(entry, k + 2),
+            get_u32(entry, k + 4),
+        );
+    }
     let wanted = Answer {
         number: u32::from(get_u16(entry, 18)),
         place: u64::from(get_u16(entry, 20)),
@@ -79,7 +74,7 @@ fn put(frame: &mut [u8], at: u16, width: u16, n: u32)
 {
     let at = usize::from(at);
     match width {
-        2 if at + 2 <= frame.len() => put_u16(frame, at, (n % 65536) as u16), // the lower half
+        2 if at + 2 <= frame.len() => put_u16(frame, at, (n % 65536) as u16), // the lower half: u16 has no `From` of u32
         4 if at + 4 <= frame.len() => put_u32(frame, at, n),
         _ => {}
     }

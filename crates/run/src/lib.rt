@@ -1,27 +1,24 @@
 // THE RUN of a whole frame, in place. A frame is run or refused, whatever its length and content.
 #![tactic(auto)]
 
-ghost use Rattle.std.specs.Prelude.{◌≡◌, ◌≤◌, length};
+ghost use Rattle.std.specs.Prelude.{◌≡◌};
 ghost use Rattle.records.specs.Answers.{answer_of};
 ghost use Rattle.frame.specs.Check.{check_of};
 ghost use Rattle.stored.specs.Run.{answers, leaves};
 ghost use Rattle.run.specs.Start.{main_phases};
 
-use records::{Refused, layout};
+use records::{Head, Refused};
 use sweep::Phases;
 
 // The phases that the head's mode asks for, with their numbers. The mode's two bits are the frame's own number, tested as the rule does.
 #[tactic(auto, unfolding(crate::specs::Start::main_phases))]
-fn main_phases(s: &[u8]) -> Phases
-    requires { 26 ≤ length s.now }
-    ensures { result ≡ main_phases s.now }
+fn main_phases(head: Head) -> Phases
+    ensures { result ≡ main_phases head.entry.bytes.now }
 {
-    let mode = little_endian::get_u16(s, layout::HEAD_MODE);
-    let coeff = little_endian::get_f32(s, layout::HEAD_WARM);
-    let least = little_endian::get_f32(s, layout::HEAD_LEAST);
+    let mode = head.mode();
     Phases {
-        update: ((mode == 1) | (mode == 3)).then_some(least),
-        warm: ((mode == 2) | (mode == 3)).then_some(coeff),
+        update: ((mode == 1) | (mode == 3)).then_some(head.least()),
+        warm: ((mode == 2) | (mode == 3)).then_some(head.warm()),
     }
 }
 
@@ -37,11 +34,9 @@ pub fn run(s: &mut [u8]) -> Result<(), Refused>
     ensures { (answer_of result ≡ answers s.old) × (s.new ≡ leaves s.old) }
 {
     frame::check(s)?;
-    // `as`: usize has no `From` of u32.
-    let n = little_endian::get_u32(s, layout::HEAD_POINTS) as usize;
-    let r = little_endian::get_u32(s, layout::HEAD_ROWS) as usize;
-    let k = little_endian::get_u16(s, layout::HEAD_RESWEEPS);
-    let p = main_phases(s);
+    let head = Head { bytes: s };
+    let (n, r, k) = (head.points(), head.rows(), head.resweeps());
+    let p = main_phases(head);
     sweep::sweep_all(p, k, n, r, s);
     Ok(())
 }

@@ -54,6 +54,7 @@ fn weigh(count: u32, k: u32, g: Vec3, im: f32, w: f32) -> f32
     pick(k < count, w + g.dot(g * im), w)
 }
 
+// Not by `Four::fold`: which place it is goes into each step.
 #[tactic(auto, unfolding(crate::specs::Row::weight_of))]
 fn weight_of(count: u32, grad: Four<Vec3>, im: Masses) -> f32
     ensures { result ≡ spec.weight_of count grad im }
@@ -64,16 +65,19 @@ fn weight_of(count: u32, grad: Four<Vec3>, im: Masses) -> f32
     weigh(count, 3, grad.d, im.d, c)
 }
 
-#[tactic(auto, unfolding(crate::specs::Row::respond))]
-fn respond(p: Spring, s: Response, w: f32, e: f32) -> Response
-    ensures { result ≡ spec.respond p s w e }
-{
-    let gain = w * p.cfm_coeff;
-    Response {
-        inv_lhs: inv(w + gain),
-        cfm_gain: gain,
-        rhs: e * p.erp_inv_dt,
-        ..s
+impl Response {
+    // For the effective mass w and the row's error e.
+    #[tactic(auto, unfolding(crate::specs::Row::respond))]
+    fn respond(self, p: Spring, w: f32, e: f32) -> Response
+        ensures { result ≡ spec.respond p self w e }
+    {
+        let gain = w * p.cfm_coeff;
+        Response {
+            inv_lhs: inv(w + gain),
+            cfm_gain: gain,
+            rhs: e * p.erp_inv_dt,
+            ..self
+        }
     }
 }
 
@@ -88,7 +92,7 @@ impl SoftScalarConstraint {
         SoftScalarConstraint {
             pos,
             grad: g.grad,
-            response: respond(self.spring, self.response, w, g.error),
+            response: self.response.respond(self.spring, w, g.error),
             ..self
         }
     }
@@ -113,19 +117,22 @@ pub fn losses(grad: Four<Vec3>, im: Masses, impulse: f32) -> Four<Vec3>
     grad.zip(im, |g, w| g * w * impulse)
 }
 
-// Before the bounds.
-#[tactic(auto, unfolding(crate::specs::Row::sought_of))]
-pub fn sought_of(s: Response, dc: f32) -> f32
-    ensures { result ≡ spec.sought_of s dc }
-{
-    s.impulse + s.inv_lhs * (dc + s.rhs - s.cfm_gain * s.impulse)
-}
+impl Response {
+    // The impulse that answers the rate dc, before the bounds.
+    #[tactic(auto, unfolding(crate::specs::Row::sought_of))]
+    pub fn sought(self, dc: f32) -> f32
+        ensures { result ≡ spec.sought_of self dc }
+    {
+        self.impulse + self.inv_lhs * (dc + self.rhs - self.cfm_gain * self.impulse)
+    }
 
-#[tactic(auto, unfolding(crate::specs::Row::total_of))]
-pub fn total_of(p: Spring, s: Response, dc: f32) -> f32
-    ensures { result ≡ spec.total_of p s dc }
-{
-    clamp(sought_of(s, dc), p.lower, p.upper)
+    // Within the bounds of its spring.
+    #[tactic(auto, unfolding(crate::specs::Row::total_of))]
+    pub fn total(self, p: Spring, dc: f32) -> f32
+        ensures { result ≡ spec.total_of p self dc }
+    {
+        clamp(self.sought(dc), p.lower, p.upper)
+    }
 }
 
 impl SoftScalarConstraint {
@@ -157,7 +164,7 @@ impl SoftScalarConstraint {
         ensures { result ≡ spec.solve self vel }
     {
         let rate = places::rate_of(self.grad, vel);
-        let total = total_of(self.spring, self.response, rate);
+        let total = self.response.total(self.spring, rate);
         Solved {
             state: self.with_impulse(total),
             loss: losses(self.grad, self.im, total - self.response.impulse),

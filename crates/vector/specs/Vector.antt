@@ -10,6 +10,10 @@ use Rattle.vector.specs.declared.Four.{Four}
 abbrev pub splat : {T : Type 0} → T → Four T
 splat x = record { a = x; b = x; c = x; d = x }
 
+-- r is what the steps make of the four, one after another, from init on
+abbrev pub Folded : {A T : Type 0} → (A → T → A → Type 0) → A → Four T → A → Type 0
+Folded {A} step init x r = (p q s : A) × step init x.a p × step p x.b q × step q x.c s × step s x.d r
+
 unfoldable pub zero_vector : Vec3
 zero_vector = record { x = f0; y = f0; z = f0 }
 

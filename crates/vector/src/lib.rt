@@ -85,6 +85,14 @@ impl<T: Copy> Four<T> {
             d: f(self.d, other.d),
         }
     }
+
+    // What f makes of them one after another, from `init` on.
+    pub fn fold<A, F: Fn(A, T) -> A>(self, init: A, f: F) -> A
+        requires { F.IsAlwaysCallable f }
+        ensures { spec.Folded (F.post f) init self result }
+    {
+        f(f(f(f(init, self.a), self.b), self.c), self.d)
+    }
 }
 
 impl Vec3 {
