@@ -1,4 +1,4 @@
-// The exports of the crates `strain` and `inverse`: an array goes by its address, and the answer is written to the last one.
+// The exports of the crates `strain` and `inverse`: an array goes by its address, and an answer that is one is written to the last.
 ghost use Rattle.std.specs.Prelude.{◌≡◌};
 ghost use Rattle.strain.specs.Six as six;
 ghost use Rattle.strain.specs.Matrix as matrix;

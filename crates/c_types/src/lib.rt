@@ -1,4 +1,4 @@
-// Structs of the C interface that stand for a generic type, which C has not: with the fields of that type, in its order.
+// The struct of the C interface that stands for a generic type, which C has not: with the fields of that type, in its order.
 #![tactic(auto)]
 
 ghost use Rattle.std.specs.Prelude.{◌≡◌};

@@ -23,8 +23,9 @@ use vector::{Four, Mat3, Vec3};
 // The bytes of an elastic row, as far as both kinds have the same fields.
 pub type ElasticBytes<'a> = RowBytes<'a, { layout::ELASTIC_END }>;
 
-// Each put here asks for the length. A type that held it beside the `&mut` was tried: each put then had to ensure that it keeps the same
-// reference. Kept passes AllWritten on, which such a type would ask of callers.
+// Each put here asks for the length. A type that holds the length beside the `&mut` was tried: each put then had to ensure that the type
+// holds the same reference after it, and to make the type a caller had to know that all floats are as they are written, which Kept alone
+// passes on.
 pub fn put_strained(b: &mut [u8], strain: &[f32; 6], least: f32)
     requires { 450 ≤ length b.old }
     ensures { (b.new ≡ put_flag b.old at.row_strained (cell.is_strained strain.now least)) × Kept b.old b.new }
@@ -39,21 +40,21 @@ pub fn put_strained(b: &mut [u8], strain: &[f32; 6], least: f32)
 // ---- the pose: only what an update uses of the last one is read
 
 #[tactic(auto, unfolding(crate::specs::Anew::pos_anew, floats::specs::Fields::four_at))]
-pub fn pos_anew(b: ElasticBytes, held: Holds) -> Four<Vec3>
+fn pos_anew(b: ElasticBytes, held: Holds) -> Four<Vec3>
     ensures { result ≡ pos_anew held b.entry.bytes.now }
 {
     places::refreshed(held, b.get(layout::ROW_POS))
 }
 
 #[tactic(auto, unfolding(crate::specs::Anew::deformation_anew))]
-pub fn deformation_anew(b: ElasticBytes, pos: Four<Vec3>) -> Mat3
+fn deformation_anew(b: ElasticBytes, pos: Four<Vec3>) -> Mat3
     ensures { result ≡ deformation_anew pos b.entry.bytes.now }
 {
     cell::update::deformation_gradient(pos, b.get(layout::ELASTIC_INV_REST_MATRIX))
 }
 
 #[tactic(auto, unfolding(crate::specs::Anew::posed_anew))]
-pub fn posed_anew(b: ElasticBytes, pos: Four<Vec3>, f: Mat3) -> Pose
+fn posed_anew(b: ElasticBytes, pos: Four<Vec3>, f: Mat3) -> Pose
     ensures { result ≡ posed_anew pos f b.entry.bytes.now }
 {
     let caps = b.get(layout::ELASTIC_STRAIN_CAP);
@@ -61,13 +62,15 @@ pub fn posed_anew(b: ElasticBytes, pos: Four<Vec3>, f: Mat3) -> Pose
     cell::update::posed(&caps, warm, pos, f)
 }
 
+// With the deformation gradient, which a corotational row goes on to use.
 #[tactic(auto, using(crate::proofs::Posed::pose_is))]
-pub fn pose_anew(b: ElasticBytes, held: Holds) -> Pose
-    ensures { result ≡ cell.update_pose (cell_of b.entry.bytes.now) (pose_of b.entry.bytes.now) held }
+pub fn pose_anew(b: ElasticBytes, held: Holds) -> (Pose, Mat3)
+    ensures pose { result.0 ≡ cell.update_pose (cell_of b.entry.bytes.now) (pose_of b.entry.bytes.now) held }
+    ensures gradient { result.1 ≡ deformation_anew (pos_anew held b.entry.bytes.now) b.entry.bytes.now }
 {
     let pos = pos_anew(b, held);
     let f = deformation_anew(b, pos);
-    posed_anew(b, pos, f)
+    (posed_anew(b, pos, f), f)
 }
 
 #[tactic(auto, unfolding(stored::specs::Put::put_pose, floats::specs::Fields::put_four))]
@@ -82,7 +85,7 @@ pub fn put_pose(b: &mut [u8], p: Pose)
     p.strain.put(b, layout::ELASTIC_STRAIN);
 }
 
-// ---- the strain rows and the impulses. Both are compiled into each phase that reads them
+// ---- the strain rows and the impulses: each reader is compiled into each phase that reads by it
 
 #[inline(always)]
 #[tactic(auto, unfolding(crate::specs::Rows::strain_rows, floats::specs::Fields::four_at, floats::specs::Fields::masses_at))]
@@ -107,7 +110,8 @@ pub fn impulses_of(b: ElasticBytes) -> Impulses
     }
 }
 
-// The strain rows under the stored rotation, and the impulses: what a warm start and a solve begin with.
+// The strain rows under the stored rotation, and the impulses: what a warm start and a solve begin with. Two values: a struct of both could
+// have no methods, since the functions that take them are of other crates.
 #[inline(always)]
 pub fn rows_and_impulses(b: ElasticBytes) -> (StrainRows, Impulses)
     ensures rows { result.0 ≡ strain_rows (mat3_at b.entry.bytes.now at.elastic_rot_mat) b.entry.bytes.now }

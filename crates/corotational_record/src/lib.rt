@@ -60,10 +60,7 @@ pub struct Update {
 pub fn updated(b: Bytes, held: Holds) -> Update
     ensures { result ≡ spec.update_anew held b.entry.bytes.now }
 {
-    let shared = b.at_least();
-    let pos = cell_record::pos_anew(shared, held);
-    let f = cell_record::deformation_anew(shared, pos);
-    let pose = cell_record::posed_anew(shared, pos, f);
+    let (pose, f) = cell_record::pose_anew(b.at_least(), held);
     let volume = volume_anew(b, &pose, f);
     Update { pose, volume }
 }

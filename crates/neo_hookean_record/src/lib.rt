@@ -74,20 +74,13 @@ fn renewed(b: Bytes, energy: Energy, strain: &[f32; 6], dt_grad: &[f32; 6]) -> B
 pub fn updated(b: Bytes, held: Holds) -> Update
     ensures { result ≡ spec.update_anew held b.entry.bytes.now }
 {
-    let pose = cell_record::pose_anew(b.at_least(), held);
+    let (pose, _) = cell_record::pose_anew(b.at_least(), held);
     let energy = lame_of(b).gradient(&pose.strain);
     let dt_grad = strain::scale(&energy.grad, b.get(layout::NEO_DT));
-    if is_kept(b, &pose.strain) {
-        return Update {
-            pose,
-            dt_grad,
-            block: None,
-        };
-    }
     Update {
         pose,
         dt_grad,
-        block: Some(renewed(b, energy, &pose.strain, &dt_grad)),
+        block: (!is_kept(b, &pose.strain)).then(|| renewed(b, energy, &pose.strain, &dt_grad)),
     }
 }
 

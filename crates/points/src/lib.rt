@@ -46,7 +46,7 @@ impl<'a> Points<'a> {
         &self.frame[off..off + layout::POINT_END]
     }
 
-    // As `velocities::held`, over bytes; one function for both would take a closure for the reading.
+    // As `velocities::held`, over bytes: of one function for both, with a closure for the reading, the closures' clauses would be longer.
     #[tactic(auto, unfolding(crate::specs::InFrame::held_in, stored::specs::Points::position))]
     fn position(self, id: u32) -> Option<Vec3>
         ensures { result ≡ held_in position self.entry.count self.entry.frame.now id }

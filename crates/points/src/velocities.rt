@@ -75,7 +75,7 @@ fn take_at(v: &mut [Vec3], id: u32, x: Vec3)
     }
 }
 
-// What each place of a row loses, place after place: a row may name one point twice.
+// What each place of a row loses, place after place: a row may name one point twice. Four calls, since `Four` has no loop over a `&mut`.
 #[tactic(auto, unfolding(crate::specs::Apart::lost))]
 pub fn take(v: &mut [Vec3], i: Ids, x: Four<Vec3>)
     ensures lost { v.new ≡ lost (length v.old) v.old i x }

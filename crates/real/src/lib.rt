@@ -32,10 +32,7 @@ pub fn signum(x: f32) -> f32
     if x.is_nan() {
         return x;
     }
-    if SIGN <= x.to_bits() {
-        return -1.0;
-    }
-    1.0
+    pick(x.is_sign_negative(), -1.0, 1.0)
 }
 
 // The library's `max` leaves open which zero it gives of two: every machine is to give the same.

@@ -12,7 +12,8 @@ ghost use Rattle.records.specs.Outcomes.{RunsTo};
 use crate::{Kind, Refusal, Refused, RowKind, layout};
 
 // The bytes of a record, and the offset in the frame at which they start. How many there are stands in clauses: with a const parameter for
-// it the proof did not close, since the check covers no `F: Fn` of a function in such an impl, and `run` has one.
+// it the proof did not close, since the check covers no `F: Fn` of a function in such an impl, and `run` has one; each single test would
+// ask for its bound all the same.
 #[derive(Clone, Copy)]
 pub struct Fields<'a> {
     pub bytes: &'a [u8],
@@ -21,7 +22,8 @@ pub struct Fields<'a> {
 }
 
 impl Fields<'_> {
-    // ---- single tests, of the field at byte k. One line each, named as the rules of specs/Fields are, beside which they are read.
+    // ---- single tests, of the field at byte k. One line each, named as the rules of specs/Fields are, beside which they are read. That the
+    // field lies within the record is asked as an index asks it: a type for k would be taken apart here.
 
     #[tactic(auto, unfolding(crate::specs::Answers::outcome, crate::specs::Answers::from))]
     fn refuse(&self, bad: bool, why: Refusal, k: usize) -> Result<(), Refused>

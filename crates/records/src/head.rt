@@ -5,7 +5,7 @@ ghost use Rattle.records.specs.Layout as at;
 
 use crate::layout;
 
-// The bytes that begin with a head: a frame's, as a rule.
+// A frame's bytes, or those of its head. Each number has a method under its name, of one line.
 #[derive(Clone, Copy)]
 pub struct Head<'a> {
     pub bytes: &'a [u8],

@@ -8,7 +8,8 @@ use std::io::{Print, Write};
 use std::{fs, io, str};
 
 // The bytes of the file: none where it is missing or cannot be read, or where the memory does not suffice. Which they are no contract can
-// say: they are the operating system's, and come only of a name that is text. It cannot fail, as it never could: `fs::read` tells why.
+// say: they are the operating system's, and come only of a name that is text. It cannot fail, as it never could: who wants the
+// error calls `fs::read`.
 pub fn read<R: Files + Alloc>(rt: &R, name: &[u8]) -> Vec<u8, R::A>
     ensures { 0 < length result.items → IsUtf8 name.now }
 {

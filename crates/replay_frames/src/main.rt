@@ -3,6 +3,7 @@
 #![tactic(auto)]
 
 ghost use Rattle.std.specs.Prelude.{◌≡◌, ◌+◌, ◌*◌, ◌<◌, ◌≤◌, length};
+ghost use Rattle.little_endian.specs.Bytes.{le16, le32};
 ghost use Rattle.replay_frames.specs.Entries as spec;
 
 use little_endian::{get_u16, get_u32, put_u16, put_u32};
@@ -30,11 +31,8 @@ fn replay(base: &[u8; BASE], entries: &[u8]) -> Tally
     ensures all { (22 * result.records ≤ length entries.now) × (length entries.now < 22 * result.records + 22) }
 {
     let mut tally = Tally::NONE;
-    // The type of a chunk says that it has an entry's bytes, which `chunks_exact` leaves to be asked.
-    let mut rest = entries;
-    while let Some((entry, others)) = rest.split_first_chunk::<ENTRY>() {
+    for entry in entries.as_chunks::<ENTRY>().0 {
         tally.count(as_stored(base, entry));
-        rest = others;
     }
     tally
 }
@@ -44,14 +42,8 @@ fn as_stored(base: &[u8; BASE], entry: &[u8; ENTRY]) -> bool
     ensures { result ≡ spec.as_stored base.now entry.now }
 {
     let mut frame = *base;
-    for k in [2, 10] {
-        put(
-            &mut frame,
-            get_u16(entry, k),
-            get_u16(entry, k + 2),
-            get_u32(entry, k + 4),
-        );
-    }
+    put(&mut frame, entry, 2);
+    put(&mut frame, entry, 10);
     let wanted = Answer {
         number: u32::from(get_u16(entry, 18)),
         place: u64::from(get_u16(entry, 20)),
@@ -68,12 +60,15 @@ fn answered(frame: &[u8], len: u16, wanted: Answer) -> bool
         .is_some_and(|part| Answer::from(frame::check(part)) == wanted)
 }
 
-// The number n in `width` bytes, 2 or 4, at `at`, where they fit; nothing at another width.
-fn put(frame: &mut [u8], at: u16, width: u16, n: u32)
-    ensures { frame.new ≡ spec.put frame.old at width n }
+// The field that the entry has at byte k: a place, a width of 2 or 4, and the number that is put there, where it fits; nothing at another
+// width.
+fn put(frame: &mut [u8], entry: &[u8; ENTRY], k: usize)
+    requires { k + 8 ≤ 22 }
+    ensures { frame.new ≡ spec.put frame.old (le16 entry.now k) (le16 entry.now (k + 2)) (le32 entry.now (k + 4)) }
 {
-    let at = usize::from(at);
-    match width {
+    let at = usize::from(get_u16(entry, k));
+    let n = get_u32(entry, k + 4);
+    match get_u16(entry, k + 2) {
         2 if at + 2 <= frame.len() => put_u16(frame, at, (n % 65536) as u16), // the lower half: u16 has no `From` of u32
         4 if at + 4 <= frame.len() => put_u32(frame, at, n),
         _ => {}

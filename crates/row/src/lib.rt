@@ -20,6 +20,7 @@ fn counted(count: u16, k: u16, id: u32) -> u32
     if k < count { id } else { NOBODY }
 }
 
+// Written out: which place it is goes into each.
 #[tactic(auto, unfolding(stored::specs::Phases::counted_ids))]
 fn counted_ids(count: u16, i: Ids) -> Ids
     ensures { result ≡ spec.counted_ids count i }
@@ -90,7 +91,7 @@ pub fn update_row(b: &mut [u8], held: Holds, least: f32)
 }
 
 // What each place is to lose. This and the next call other functions of each kind and put other fields: one function for both would take
-// a closure for each kind.
+// six closures, to compute and to put by each kind.
 #[tactic(auto, using(crate::proofs::ByKind::by_phase), unfolding(rows::specs::Step::warmstart_of, stored::specs::Put::warm_constraint))]
 pub fn warm_row(b: &mut [u8], coeff: f32) -> Four<Vec3>
     requires { Whole b.old }

@@ -1,4 +1,5 @@
-// Six-vectors and 6x6 matrices as flat arrays, a matrix column by column: entry (i, j) stands at j * 6 + i.
+// Six-vectors and 6x6 matrices as flat arrays, a matrix column by column: entry (i, j) stands at j * 6 + i. Flat, as document 01 asks and
+// as C has them.
 #![tactic(auto)]
 
 ghost use Rattle.std.specs.Prelude.{◌≡◌, ◌<◌};
@@ -126,7 +127,8 @@ pub fn set_column(m: &mut [f32; 36], j: usize, c: &[f32; 6])
     }
 }
 
-// Column by column, as the columns lie: `from_fn` over all 36 entries would make each column six times.
+// Column by column, as the columns lie: `from_fn` over all 36 entries would make each column six times. The same loop is in `ger` and in
+// inverse's `solve`: of one function over a closure each closure's clauses would be written out, since a column's number is below 6.
 pub fn mat_mul(a: &[f32; 36], b: &[f32; 36]) -> [f32; 36]
     ensures { result ≡ matrix.mat_mul a.now b.now }
 {

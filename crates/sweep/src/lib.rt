@@ -23,7 +23,8 @@ pub struct Phases {
     pub warm: Option<f32>,
 }
 
-// What a sweep does with each row. A resweep solves the rows that are strained, and passes over the others.
+// What a sweep does with each row. A resweep solves the rows that are strained, and passes over the others. As a closure for the step
+// every function here would have to carry what it does in its clauses.
 #[derive(Clone, Copy)]
 enum Turn {
     Main(Phases),
@@ -42,7 +43,7 @@ struct Row {
 
 // The frame s and the velocities v go together, but stay two slices: of a struct of two `&mut` each function would have to ensure that it
 // keeps both references and their lengths, which the type of a slice says. That the row stands in the frame is asked of the frame as it is
-// then, so that it is no field of the row.
+// then, so that it is no field of the row. Its end is made where it is used: a method would have to ask that it does not overflow.
 impl Row {
     fn update(self, least: Option<f32>, s: &mut [u8], v: &[Vec3])
         requires { Stood self v.now s.old }
@@ -127,10 +128,7 @@ fn row_at(s: &[u8], off: usize) -> &[u8]
     requires scalar { le16 s.now (off + 4) ≡ 3 → record_length s.now off ≡ 182 }
     ensures { (result.now ≡ record_at s.now off) × (length result.now ≡ record_length s.now off) }
 {
-    match RowKind::of(&s[off..]) {
-        RowKind::Scalar => &s[off..off + layout::SCALAR_END],
-        RowKind::Corotational | RowKind::NeoHookean => records::record_at(s, off),
-    }
+    records::record_at(s, off)
 }
 
 // The rows are walked by hand: while they are walked the frame is altered, and so no iterator may hold it.

@@ -18,7 +18,8 @@ pub struct Vec3 {
     pub z: f32,
 }
 
-// A value for each of the four particles that a row can name, particle 0 first.
+// A value for each of the four particles that a row can name, particle 0 first. By fields, as the rules have them: of a `[T; 4]` each would
+// be an index, and the contracts of the array's own `map` speak of lists.
 #[derive(Clone, Copy)]
 pub struct Four<T> {
     pub a: T,

@@ -1,4 +1,4 @@
-use Rattle.std.proofs.Common.{◌≡◌, ◌+◌, ◌*◌, ◌≤◌, length}
+use Rattle.std.proofs.Common.{◌≡◌, ◌/◌, ◌≤◌, length}
 use Rattle.replay_frames.specs.Entries.{Counted}
 use Rattle.replay_frames.proofs.replay.Given as goal
 
@@ -6,8 +6,6 @@ abbrev pub invariant-loop-entry : goal.invariant-loop-entry
 invariant-loop-entry l = record {
   counted : Counted l.base l.tally.records l.tally.differ;
   few : l.tally.differ ≤ l.tally.records;
-  passed : 22 * l.tally.records + length l.rest ≡ length l.entries;
+  passed : l.tally.records ≡ l.entry-index;
+  all : length l.entry-items ≡ length l.entries / 22;
 }
-
-abbrev pub decreases-loop-entry : goal.decreases-loop-entry
-decreases-loop-entry l = length l.rest
