@@ -12,26 +12,26 @@ unfolding any_of
 any_is t [] = refl
 any_is t (x ∷ l) = ap (λ (b : Bool). t x || b) (any_is t l)
 
-pub row_clashing : (ms : List ℕ) (q : Names) {r : Bool} → (q.colour ≡ 65535 → ⊥) → r ≡ list_any (is_marked ms (q.colour + 1)) q.ids → r ≡ clashing ms q
+pub row_clashing : (ms : List (Option ℕ)) (q : Names) {r : Bool} → (q.colour ≡ 65535 → ⊥) → r ≡ list_any (is_marked ms q.colour) q.ids → r ≡ clashing ms q
 unfolding clashing
-row_clashing ms q e h = simp (ne_eqb q.colour 65535 e) (h ∙ any_is (is_marked ms (q.colour + 1)) q.ids)
+row_clashing ms q e h = simp (ne_eqb q.colour 65535 e) (h ∙ any_is (is_marked ms q.colour) q.ids)
 
 -- after i of the places: what is left to mark
-pub record Marking (m i : ℕ) (ids : List (Option ℕ)) (old new : List ℕ) : Type 0 where
-  pub left : mark_all new m (drop i ids) ≡ mark_all old m ids
+pub record Marking (c i : ℕ) (ids old new : List (Option ℕ)) : Type 0 where
+  pub left : mark_all new c (drop i ids) ≡ mark_all old c ids
 
-pub none_yet : (m : ℕ) (ids : List (Option ℕ)) (old : List ℕ) → Marking m 0 ids old old
-none_yet m ids old = record { left = refl }
+pub none_yet : (c : ℕ) (ids old : List (Option ℕ)) → Marking c 0 ids old old
+none_yet c ids old = record { left = refl }
 
-pub one_more : {m i : ℕ} {ids : List (Option ℕ)} {old ms new : List ℕ} → Marking m i ids old ms → i < length ids → new ≡ mark_with ms m (get_or ids i None) → Marking m (i + 1) ids old new
+pub one_more : {c i : ℕ} {ids old ms new : List (Option ℕ)} → Marking c i ids old ms → i < length ids → new ≡ mark_with ms c (get_or ids i None) → Marking c (i + 1) ids old new
 unfolding mark_all
-one_more {m} {i} {ids} {old} {ms} {new} w h e =
+one_more {c} {i} {ids} {old} {ms} {new} w h e =
     let d = drop-cons ids i None h in
-    let l : mark_all ms m (get_or ids i None ∷ drop (i + 1) ids) ≡ mark_all old m ids = rw (add-one, ← d) w.left in
-    record { left = ap (λ (x : List ℕ). mark_all x m (drop (i + 1) ids)) e ∙ l }
+    let l : mark_all ms c (get_or ids i None ∷ drop (i + 1) ids) ≡ mark_all old c ids = rw (add-one, ← d) w.left in
+    record { left = ap (λ (x : List (Option ℕ)). mark_all x c (drop (i + 1) ids)) e ∙ l }
 
-pub all_marked : (q : Names) {i : ℕ} {old ms : List ℕ} → (q.colour ≡ 65535 → ⊥) → Marking (q.colour + 1) i q.ids old ms → length q.ids ≤ i → ms ≡ mark_row old q
+pub all_marked : (q : Names) {i : ℕ} {old ms : List (Option ℕ)} → (q.colour ≡ 65535 → ⊥) → Marking q.colour i q.ids old ms → length q.ids ≤ i → ms ≡ mark_row old q
 unfolding mark_row mark_all
 all_marked q {i} {old} {ms} e w h =
-    let l : mark_all ms (q.colour + 1) [] ≡ mark_all old (q.colour + 1) q.ids = rw (drop_all i q.ids h) at w.left in
+    let l : mark_all ms q.colour [] ≡ mark_all old q.colour q.ids = rw (drop_all i q.ids h) at w.left in
     l ∙ sym (simp (ne_eqb q.colour 65535 e) refl)

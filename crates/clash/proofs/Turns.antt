@@ -1,6 +1,6 @@
 -- The loop of the clash test, one row a turn. Assumes nothing.
 use Rattle.std.proofs.Common.{ℕ, suc, ◌+◌, ◌-◌, ◌≤◌, ◌<◌, ◌≡◌, refl, sym, ap, ◌∙◌, subst, Bool, List, [], ◌∷◌, arith, length, take}
-use Rattle.std.proofs.Common.{replicate, Result, Ok, Err}
+use Rattle.std.proofs.Common.{replicate, Option, None, Result, Ok, Err}
 use Rattle.std.proofs.Math.Nat.{sub-zero}
 use Rattle.little_endian.specs.Bytes.{le16, le32}
 use Rattle.little_endian.proofs.Parts.{Bytes, le16_small, le16_part}
@@ -51,7 +51,7 @@ abbrev pub clashed : ℕ → List ℕ → ℕ → Seen → Result Unit Refused
 clashed n s k a = outcome (clash_tests n k s a.off a.keys)
 
 -- before turn i of k the row at off comes, after rows of these keys, and the rest of the rows pass their own tests
-pub record Clashing (n : ℕ) (s : List ℕ) (k at₀ i off : ℕ) (ms : List ℕ) : Type 0 where
+pub record Clashing (n : ℕ) (s : List ℕ) (k at₀ i off : ℕ) (ms : List (Option ℕ)) : Type 0 where
   pub keys : List Key
   pub last : ℕ
   pub going : Rest (clashed n s) k (seen at₀ []) i (seen off keys)
@@ -59,7 +59,7 @@ pub record Clashing (n : ℕ) (s : List ℕ) (k at₀ i off : ℕ) (ms : List �
   pub marked : Marked n ms keys
   pub falling : Below keys last
 
-pub begins : (n : ℕ) (s : List ℕ) (k at₀ : ℕ) → n ≤ 4096 → Passed (records_tests Row k s at₀ 0) → Clashing n s k at₀ 0 at₀ (take n (replicate 4096 0))
+pub begins : (n : ℕ) (s : List ℕ) (k at₀ : ℕ) → n ≤ 4096 → Passed (records_tests Row k s at₀ 0) → Clashing n s k at₀ 0 at₀ (take n (replicate 4096 None))
 begins n s k at₀ h p = record {
   keys = [];
   last = 0;
@@ -69,7 +69,7 @@ begins n s k at₀ h p = record {
   falling = below_any 0;
 }
 
-module _ {n : ℕ} {s : List ℕ} {k at₀ i off : ℕ} {ms : List ℕ} (w : Clashing n s k at₀ i off ms) (h : i < k) where
+module _ {n : ℕ} {s : List ℕ} {k at₀ i off : ℕ} {ms : List (Option ℕ)} (w : Clashing n s k at₀ i off ms) (h : i < k) where
   turn : Passed (record_tests Row s off w.last) × Passed (records_tests Row (k - (i + 1)) s (off + record_length s off) (le16 s (off + 6)))
   unfolding records_tests
   turn = passed_split (record_tests Row s off w.last) _ (subst (λ (j : ℕ). Passed (records_tests Row j s off w.last)) (sub_turn k i h) w.left)
@@ -104,19 +104,19 @@ module _ {n : ℕ} {s : List ℕ} {k at₀ i off : ℕ} {ms : List ℕ} (w : Cla
     pub refuses : (x : Refused) → u ≡ Err x → Err x ≡ outcome (clash_tests n k s at₀ [])
     refuses x z = rest_stops w.going h (λ j. one j ∙ simp z)
 
-    pub again : (v : Unit) (ms' : List ℕ) (off' : ℕ) → u ≡ Ok v → ms' ≡ mark_row ms q → off' ≡ off + record_length s off → Clashing n s k at₀ (i + 1) off' ms'
+    pub again : (v : Unit) (ms' : List (Option ℕ)) (off' : ℕ) → u ≡ Ok v → ms' ≡ mark_row ms q → off' ≡ off + record_length s off → Clashing n s k at₀ (i + 1) off' ms'
     again v ms' off' z m o =
         record {
           keys = key_of (record_at s off) ∷ w.keys;
           last = le16 s (off + 6);
           going = rest_again (seen off' (key_of (record_at s off) ∷ w.keys)) w.going h (λ j. one j ∙ simp (z, o));
           left = subst (λ (x : ℕ). Passed (records_tests Row (k - (i + 1)) s x (le16 s (off + 6)))) (sym o) turn.1;
-          marked = subst (λ (l : List ℕ). Marked n l (key_of (record_at s off) ∷ w.keys)) (sym (m ∙ ap (mark_row ms) (eq ∙ ap names_of e)))
+          marked = subst (λ (l : List (Option ℕ)). Marked n l (key_of (record_at s off) ∷ w.keys)) (sym (m ∙ ap (mark_row ms) (eq ∙ ap names_of e)))
               (marked_row n ms w.keys (record_at s off) w.marked);
           falling = below_cons (key_of (record_at s off)) w.keys w.last (le16 s (off + 6)) w.falling
               (omega (arith, colour_key (record_at s off), rises)) (omega (arith, colour_key (record_at s off), row_colour_lem s off w.last here.0));
         }
 
-pub ends : {n : ℕ} {s : List ℕ} {k at₀ i off : ℕ} {ms : List ℕ} → Clashing n s k at₀ i off ms → k ≤ i → Ok tt ≡ outcome (clash_tests n k s at₀ [])
+pub ends : {n : ℕ} {s : List ℕ} {k at₀ i off : ℕ} {ms : List (Option ℕ)} → Clashing n s k at₀ i off ms → k ≤ i → Ok tt ≡ outcome (clash_tests n k s at₀ [])
 unfolding clash_tests outcome
 ends w h = rest_ends w.going h

@@ -1,6 +1,7 @@
--- What the inner functions of the clash test cite: the names of a row with four places, and a mark for each point, one more than the colour of the
--- row that named it last. Assumes nothing.
+-- What the inner functions of the clash test cite: the names of a row with four places, and a mark for each point, the colour of the row
+-- that named it last. Assumes nothing.
 use Rattle.std.specs.Prelude.{ℕ, ◌+◌, Bool, false, cond, not, ◌&&◌, List, [], ◌∷◌, length, get_or, set, ltb, eqb, Option, Some, None}
+use Rattle.std.specs.Option.{option_eq}
 use Rattle.little_endian.specs.Bytes.{le16, le32}
 use Rattle.records.specs.Layout.{row_colour, row_ids}
 use Rattle.clash.specs.declared.Names.{Names}
@@ -26,23 +27,24 @@ abbrev pub named : (ℕ → Bool) → Option ℕ → Bool
 named t None = false
 named t (Some id) = t id
 
-unfoldable pub marked_at : List ℕ → ℕ → ℕ → Bool
-marked_at marks m id = ltb id (length marks) && eqb (get_or marks id 0) m
+-- the row that named this point last has the colour c
+unfoldable pub marked_at : List (Option ℕ) → ℕ → ℕ → Bool
+marked_at marks c id = ltb id (length marks) && option_eq eqb (get_or marks id None) (Some c)
 
-abbrev pub is_marked : List ℕ → ℕ → Option ℕ → Bool
-is_marked marks m id = named (marked_at marks m) id
+abbrev pub is_marked : List (Option ℕ) → ℕ → Option ℕ → Bool
+is_marked marks c id = named (marked_at marks c) id
 
-unfoldable pub clashing : List ℕ → Names → Bool
-clashing marks q = not (eqb q.colour overflow) && any_of (is_marked marks (q.colour + 1)) q.ids
+unfoldable pub clashing : List (Option ℕ) → Names → Bool
+clashing marks q = not (eqb q.colour overflow) && any_of (is_marked marks q.colour) q.ids
 
-unfoldable pub mark_with : List ℕ → ℕ → Option ℕ → List ℕ
-mark_with marks m None = marks
-mark_with marks m (Some id) = cond (ltb id (length marks)) (set marks id m) marks
+unfoldable pub mark_with : List (Option ℕ) → ℕ → Option ℕ → List (Option ℕ)
+mark_with marks c None = marks
+mark_with marks c (Some id) = cond (ltb id (length marks)) (set marks id (Some c)) marks
 
 -- each of the places in turn
-unfoldable pub mark_all : List ℕ → ℕ → List (Option ℕ) → List ℕ
-mark_all marks m [] = marks
-mark_all marks m (id ∷ ids) = mark_all (mark_with marks m id) m ids
+unfoldable pub mark_all : List (Option ℕ) → ℕ → List (Option ℕ) → List (Option ℕ)
+mark_all marks c [] = marks
+mark_all marks c (id ∷ ids) = mark_all (mark_with marks c id) c ids
 
-unfoldable pub mark_row : List ℕ → Names → List ℕ
-mark_row marks q = cond (eqb q.colour overflow) marks (mark_all marks (q.colour + 1) q.ids)
+unfoldable pub mark_row : List (Option ℕ) → Names → List (Option ℕ)
+mark_row marks q = cond (eqb q.colour overflow) marks (mark_all marks q.colour q.ids)

@@ -1,5 +1,5 @@
 -- `clash::clash_test` meets its contract. The marks say which points the rows so far name, and in which colour. Assumes nothing.
-use Rattle.std.proofs.Common.{arith, rules}
+use Rattle.std.proofs.Common.{arith}
 use Rattle.clash.proofs.Turns.{begins, whole, long, refuses, again, ends}
 use Rattle.clash.proofs.clash_test.Goals as goal
 
@@ -15,7 +15,7 @@ names_of-q-requires c = omega (arith, long c.loop.invariant c.loop-test.true, c.
 pub returns-in_err-refuse : goal.returns-in_err-refuse
 returns-in_err-refuse c =
     let e = refuses c.loop.invariant c.loop-test.true (λ k. omega (arith, c.type_inv.s k)) _ c.record_at-b.ensures.0 _ c.names_of-q.ensures _ c.is_clashing.ensures _ c.refuse.ensures _ c.in_err-refuse.was in
-    search rules
+    grind arith
 
 pub loop-preserved : goal.loop-preserved
 loop-preserved c =
