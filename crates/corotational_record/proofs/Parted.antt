@@ -2,18 +2,19 @@
 use Rattle.std.proofs.Common.{◌≡◌, refl, ℕ, List, Float}
 use Rattle.places.specs.Places.{Holds}
 use Rattle.records.specs.Layout as at
+use Rattle.cell.specs.Cell.{update_pose}
 use Rattle.cell.specs.declared.Pose.{Pose}
 use Rattle.cell.specs.declared.StrainRows.{StrainRows}
 use Rattle.corotational.specs.Corotational.{solve_corotational, solve_rows, warmstart_corotational}
 use Rattle.corotational.specs.Row.{update, warmstart, solve}
 use Rattle.floats.specs.Fields.{vec3_at, four_at, four_of, mat3_at}
 use Rattle.stored.specs.Read.{cell_of, pose_of, compliance_of, impulses_of, springs_of, volume_of, corotational_of}
-use Rattle.cell_record.specs.Anew.{pos_anew, deformation_anew, posed_anew}
+use Rattle.cell_record.specs.Anew.{pos_anew, deformation_anew}
 use Rattle.cell_record.specs.Rows.{strain_rows}
 use Rattle.corotational_record.specs.Parts.{volume_anew, strain_step_at}
 
 abbrev posed : List ℕ → Holds → Pose
-posed b held = posed_anew (pos_anew held b) (deformation_anew (pos_anew held b) b) b
+posed b held = update_pose (cell_of b) (pose_of b) held
 
 pub update_is :
     (b : List ℕ) (held : Holds)
@@ -26,7 +27,7 @@ pub update_is :
       springs = springs_of b;
       volume = volume_anew (posed b held).rot_mat (posed b held).inverted (deformation_anew (pos_anew held b) b) b;
     }
-unfolding update cell_of pose_of corotational_of pos_anew deformation_anew posed_anew volume_anew
+unfolding update update_pose cell_of pose_of corotational_of pos_anew deformation_anew volume_anew
 update_is b held = refl
 
 -- the strain rows under the rotation of the last update

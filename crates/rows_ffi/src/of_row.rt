@@ -57,16 +57,23 @@ pub extern "C" fn rt_row_update(s: &mut [u8], held: Holds, least: f32) -> bool
     false
 }
 
+// By an `if`, as the next: `then` does not say that what it is given is left uncalled where it gives None, so that nothing is known of s.
 #[unsafe(no_mangle)]
 pub extern "C" fn rt_row_warm(s: &mut [u8], coeff: f32) -> Lost
     ensures { (as_lost result ≡ spec.warm_lost coeff s.old) × (s.new ≡ spec.warmed coeff s.old) }
 {
-    is_row(s).then(|| row::warm_row(s, coeff)).into()
+    if is_row(s) {
+        return Some(row::warm_row(s, coeff)).into();
+    }
+    None.into()
 }
 
 #[unsafe(no_mangle)]
 pub extern "C" fn rt_row_solve(s: &mut [u8], vel: Holds) -> Lost
     ensures { (as_lost result ≡ spec.solve_lost (as_holds vel) s.old) × (s.new ≡ spec.solved (as_holds vel) s.old) }
 {
-    is_row(s).then(|| row::solve_row(s, vel.into())).into()
+    if is_row(s) {
+        return Some(row::solve_row(s, vel.into())).into();
+    }
+    None.into()
 }
