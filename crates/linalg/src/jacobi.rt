@@ -7,13 +7,13 @@ ghost use Rattle.linalg.specs.Eigen as spec;
 ghost use Rattle.linalg.specs.Steps as steps;
 
 // A matrix row by row, as arrays: P and Q are indices of them, where Mat3's columns are fields.
-pub(crate) type Rows = [[f32; 3]; 3];
+type Rows = [[f32; 3]; 3];
 
-// A rotation by its cosine and sine. Not `SinCos`, which is of an angle, and C's.
+// A rotation by its cosine and sine. Not `SinCos`, which is another crate's, so that `turned` could be no method of it.
 #[derive(Clone, Copy)]
-pub(crate) struct Rotation {
-    pub(crate) c: f32,
-    pub(crate) s: f32,
+struct Rotation {
+    c: f32,
+    s: f32,
 }
 
 impl Rotation {
@@ -50,7 +50,7 @@ fn rotation_for(apq: f32, d: f32) -> Option<Rotation>
 }
 
 // The rotation that is due at a pair.
-pub(crate) fn rotation_at<const P: usize, const Q: usize>(a: Rows) -> Option<Rotation>
+fn rotation_at<const P: usize, const Q: usize>(a: Rows) -> Option<Rotation>
     requires { (P < 3) × (Q < 3) }
     ensures { result ≡ steps.rotation_at a P Q }
 {
@@ -70,7 +70,8 @@ fn rotate_columns<const P: usize, const Q: usize>(m: Rows, g: Rotation) -> Rows
     a
 }
 
-// Jᵀ A, column after column: by index, as a column is no slice. A flag that makes one function of both would be no plainer.
+// Jᵀ A, column after column. By index: what changes are two rows of one array, which would have to be copied out, or the array split, to be
+// gone over together. A flag that makes one function of both would be no plainer.
 #[tactic(auto, using(loops::specs::Loops::counted), unfolding(crate::specs::Eigen::rotate_rows))]
 fn rotate_rows<const P: usize, const Q: usize>(m: Rows, g: Rotation) -> Rows
     requires { (P < 3) × (Q < 3) }
@@ -83,26 +84,23 @@ fn rotate_rows<const P: usize, const Q: usize>(m: Rows, g: Rotation) -> Rows
     a
 }
 
-// Jᵀ A J. By a match, as V J: a closure for `map_or`, in a function with const parameters, would have to have its clauses written out.
-#[tactic(auto, unfolding(crate::specs::Steps::turn_matrix))]
-pub(crate) fn turn_matrix<const P: usize, const Q: usize>(a: Rows, g: Option<Rotation>) -> Rows
-    requires { (P < 3) × (Q < 3) }
-    ensures { result ≡ steps.turn_matrix P Q g a }
-{
-    match g {
-        Some(g) => rotate_rows::<P, Q>(rotate_columns::<P, Q>(a, g), g),
-        None => a,
-    }
+// A matrix that is being turned to a diagonal one, and the vectors that its rotations have made so far.
+#[derive(Clone, Copy)]
+pub(crate) struct Turning {
+    pub(crate) a: Rows,
+    pub(crate) v: Rows,
 }
 
-// V J.
-#[tactic(auto, unfolding(crate::specs::Steps::turn_vectors))]
-pub(crate) fn turn_vectors<const P: usize, const Q: usize>(v: Rows, g: Option<Rotation>) -> Rows
-    requires { (P < 3) × (Q < 3) }
-    ensures { result ≡ steps.turn_vectors P Q g v }
-{
-    match g {
-        Some(g) => rotate_columns::<P, Q>(v, g),
-        None => v,
+impl Turning {
+    // Jᵀ A J and V J, by the rotation that is due at the pair.
+    #[tactic(auto, unfolding(crate::specs::Steps::rotation_for, crate::specs::Eigen::turn))]
+    pub(crate) fn turn<const P: usize, const Q: usize>(&mut self)
+        requires { (P < 3) × (Q < 3) }
+        ensures { steps.state_of self.new ≡ spec.turn P Q (steps.state_of self.old) }
+    {
+        if let Some(g) = rotation_at::<P, Q>(self.a) {
+            self.a = rotate_rows::<P, Q>(rotate_columns::<P, Q>(self.a, g), g);
+            self.v = rotate_columns::<P, Q>(self.v, g);
+        }
     }
 }

@@ -5,10 +5,11 @@
 ghost use Rattle.std.specs.Prelude.{◌≡◌};
 ghost use Rattle.linalg.specs.Eigen as spec;
 ghost use Rattle.linalg.specs.Products as products;
+ghost use Rattle.linalg.specs.Steps as steps;
 
 mod jacobi; // the steps of a sweep
 
-use jacobi::Rows;
+use jacobi::Turning;
 use vector::{Mat3, Vec3};
 
 // The eigenvalues, and the eigenvectors as columns.
@@ -20,9 +21,10 @@ pub struct Eigen {
 }
 
 // The values on the diagonal, and vector k from column k.
-fn eigen_of(a: Rows, v: Rows) -> Eigen
-    ensures { result ≡ spec.eigen_of (record { a = a; v = v }) }
+fn eigen_of(t: Turning) -> Eigen
+    ensures { result ≡ spec.eigen_of (steps.state_of t) }
 {
+    let Turning { a, v } = t;
     Eigen {
         values: Vec3 {
             x: a[0][0],
@@ -49,33 +51,28 @@ fn eigen_of(a: Rows, v: Rows) -> Eigen
     }
 }
 
-// Cyclic Jacobi on rows. In a sweep the matrix is turned first, and then its vectors by the same three rotations.
+// Cyclic Jacobi on rows: in a sweep the matrix and its vectors are turned pair by pair.
 pub fn symmetric_eigen(m: Mat3) -> Eigen
     ensures { result ≡ spec.symmetric_eigen m }
 {
-    let mut a = [
-        [m.x.x, m.y.x, m.z.x],
-        [m.x.y, m.y.y, m.z.y],
-        [m.x.z, m.y.z, m.z.z],
-    ];
-    let mut v = [[1.0f32, 0.0, 0.0], [0.0, 1.0, 0.0], [0.0, 0.0, 1.0]];
+    let mut t = Turning {
+        // The rows of m, which is held by columns: they are made here alone.
+        a: [
+            [m.x.x, m.y.x, m.z.x],
+            [m.x.y, m.y.y, m.z.y],
+            [m.x.z, m.y.z, m.z.z],
+        ],
+        v: [[1.0f32, 0.0, 0.0], [0.0, 1.0, 0.0], [0.0, 0.0, 1.0]],
+    };
     for _ in 0usize..8 {
-        if jacobi::is_settled(a) {
+        if jacobi::is_settled(t.a) {
             break;
         }
-        let first = jacobi::rotation_at::<0, 1>(a);
-        let a1 = jacobi::turn_matrix::<0, 1>(a, first);
-        let second = jacobi::rotation_at::<0, 2>(a1);
-        let a2 = jacobi::turn_matrix::<0, 2>(a1, second);
-        let third = jacobi::rotation_at::<1, 2>(a2);
-        let a3 = jacobi::turn_matrix::<1, 2>(a2, third);
-        let v1 = jacobi::turn_vectors::<0, 1>(v, first);
-        let v2 = jacobi::turn_vectors::<0, 2>(v1, second);
-        let v3 = jacobi::turn_vectors::<1, 2>(v2, third);
-        a = a3;
-        v = v3;
+        t.turn::<0, 1>();
+        t.turn::<0, 2>();
+        t.turn::<1, 2>();
     }
-    eigen_of(a, v)
+    eigen_of(t)
 }
 
 // The outer product `a bᵀ`.

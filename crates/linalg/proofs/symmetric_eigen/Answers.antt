@@ -1,29 +1,16 @@
--- `linalg::symmetric_eigen` meets its contract: what is to come of the state before each turn is what was to come of it at first, and a turn is a sweep.
--- Assumes nothing.
+-- `linalg::symmetric_eigen` meets its contract: what is to come of the state before each turn of the loop is what was to come of it at
+-- first, and such a turn is a sweep. Assumes nothing.
 use Rattle.std.proofs.Common.{rules, ap, ◌∙◌}
-use Rattle.loops.specs.Loops.{coming_none, coming_more, coming_stop, coming_end}
-use Rattle.linalg.specs.Eigen.{sweeps, eigen_of, symmetric_eigen}
-use Rattle.linalg.specs.Steps.{swept}
+use Rattle.loops.specs.Loops.{coming_more, coming_stop, coming_end}
+use Rattle.linalg.specs.Eigen.{turn, sweep, sweeps, eigen_of, symmetric_eigen}
 use Rattle.linalg.proofs.symmetric_eigen.Goals as goal
 use Rattle.linalg.proofs.symmetric_eigen.Goals.{else-loop-test, then-loop-test+then-is_settled}
 
-pub loop-init : goal.loop-init
-loop-init c = coming_none
-
 pub loop-preserved : goal.loop-preserved
+unfolding sweep
 loop-preserved c =
-    let loop = c.loop in
-    coming_more loop.invariant (search rules) (cc)
-    (swept loop.a loop.v
-    c.rotation_at-first.ensures
-    c.turn_matrix-a1.ensures
-    c.rotation_at-second.ensures
-    c.turn_matrix-a2.ensures
-    c.rotation_at-third.ensures
-    c.turn_matrix-a3.ensures
-    c.turn_vectors-v1.ensures
-    c.turn_vectors-v2.ensures
-    c.turn_vectors-v3.ensures)
+    coming_more c.loop.invariant (search rules) (cc)
+    (c.turn-in-loop-2.ensures ∙ ap (turn 1 2) (c.turn-in-loop.ensures ∙ ap (turn 0 2) c.turn.ensures))
 
 pub returns : goal.returns
 unfolding symmetric_eigen sweeps

@@ -1,6 +1,6 @@
 -- `linalg::jacobi::rotate_columns` meets its contract: two stores in one row are one store of that row. Assumes nothing.
-use Rattle.std.specs.Prelude.{refl, ◌≡◌, ◌<◌, ℕ, List, [], length, set, get_or, Float}
-use Rattle.std.proofs.Common.{rules, sym, ap, ◌∙◌, get_or-set_same, set-set}
+use Rattle.std.specs.Prelude.{◌≡◌, ◌<◌, ℕ, List, [], length, set, get_or, Float}
+use Rattle.std.proofs.Common.{rules, sym, get_or-set_same, set-set}
 use Rattle.loops.specs.Loops.{ran_more}
 use Rattle.linalg.specs.Eigen.{Rows, store}
 use Rattle.linalg.proofs.jacobi.rotate_columns.Goals as goal
