@@ -25,7 +25,7 @@ struct Elimination {
 struct Singular;
 
 // The row of the pivot of column j; `most` is its magnitude. The first of equal ones counts, and a NaN
-// never: floats have no order in which an iterator's `max_by` could take the greatest.
+// neither takes another's place nor loses its own: floats have no order by which `max_by` would choose so.
 #[tactic(auto, using(crate::specs::Pivot::best_none, crate::specs::Pivot::best_more, crate::specs::Pivot::best_all))]
 fn pivot_row(m: &[f32; 36], j: usize) -> usize
     requires { j < 6 }
