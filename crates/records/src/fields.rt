@@ -22,8 +22,8 @@ pub struct Fields<'a> {
 }
 
 impl Fields<'_> {
-    // ---- single tests, of the field at byte k. One line each, named as the rules of specs/Fields are, beside which they are read. That the
-    // field lies within the record is asked as an index asks it: a type for k would be taken apart here.
+    // ---- single tests, of the field at byte k. One line each, named as the rules of specs/Fields are, beside which they are read. That
+    // the field lies within the record is asked as an index asks it: a type for k would be taken apart here.
 
     #[tactic(auto, unfolding(crate::specs::Answers::outcome, crate::specs::Answers::from))]
     fn refuse(&self, bad: bool, why: Refusal, k: usize) -> Result<(), Refused>
