@@ -40,21 +40,21 @@ pub fn put_strained(b: &mut [u8], strain: &[f32; 6], least: f32)
 // ---- the pose: only what an update uses of the last one is read
 
 #[tactic(auto, unfolding(crate::specs::Anew::pos_anew, floats::specs::Fields::four_at))]
-fn pos_anew(b: ElasticBytes, held: Holds) -> Four<Vec3>
+pub fn pos_anew(b: ElasticBytes, held: Holds) -> Four<Vec3>
     ensures { result ≡ pos_anew held b.entry.bytes.now }
 {
     places::refreshed(held, b.get(layout::ROW_POS))
 }
 
 #[tactic(auto, unfolding(crate::specs::Anew::deformation_anew))]
-fn deformation_anew(b: ElasticBytes, pos: Four<Vec3>) -> Mat3
+pub fn deformation_anew(b: ElasticBytes, pos: Four<Vec3>) -> Mat3
     ensures { result ≡ deformation_anew pos b.entry.bytes.now }
 {
     cell::update::deformation_gradient(pos, b.get(layout::ELASTIC_INV_REST_MATRIX))
 }
 
 #[tactic(auto, unfolding(crate::specs::Anew::posed_anew))]
-fn posed_anew(b: ElasticBytes, pos: Four<Vec3>, f: Mat3) -> Pose
+pub fn posed_anew(b: ElasticBytes, pos: Four<Vec3>, f: Mat3) -> Pose
     ensures { result ≡ posed_anew pos f b.entry.bytes.now }
 {
     let caps = b.get(layout::ELASTIC_STRAIN_CAP);
