@@ -24,6 +24,7 @@ fn replay(alloc: Global, bytes: &[u8]) -> Result<Tally, AllocError>
     ensures { IfOk result (λ t. spec.Counted t.records t.differ) }
 {
     let mut tally = Tally::NONE;
+    // No iterator: an entry says itself how long it is.
     let mut rest = bytes;
     while let Some((entry, others)) = first(rest) {
         tally.count(entry.as_stored(alloc)?);
