@@ -28,15 +28,11 @@ pub fn strain_rows_dual(m: Mat3) -> [f32; 6]
     ]
 }
 
-// The halves are made before the list: made in it, a cell's losses took 23.7 ns for 23.3.
 #[tactic(auto, unfolding(crate::specs::Strain::strain_tensor, crate::specs::Strain::strain_matrix))]
 pub fn strain_tensor(l: &[f32; 6]) -> Mat3
     ensures { result ≡ spec.strain_tensor l.now }
 {
-    let h01 = 0.5 * l[3];
-    let h02 = 0.5 * l[4];
-    let h12 = 0.5 * l[5];
-    strain_matrix(&[l[0], l[1], l[2], h01, h02, h12])
+    strain_matrix(&[l[0], l[1], l[2], 0.5 * l[3], 0.5 * l[4], 0.5 * l[5]])
 }
 
 #[tactic(auto, unfolding(crate::specs::Strain::strain_matrix))]

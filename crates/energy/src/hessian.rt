@@ -10,7 +10,7 @@ use vector::{Mat3, Vec3};
 
 // ---- in the principal frame
 
-// For each axis the product of the two other stretches.
+// For each axis the product of the two other stretches, from 1.0, as the source's product starts.
 #[tactic(auto, unfolding(crate::specs::Hessian::areas))]
 fn areas(sigma: Vec3) -> Vec3
     ensures { result ≡ spec.areas sigma }
@@ -102,7 +102,7 @@ impl Lame {
         }
     }
 
-    // The Hessian in the principal frame, with sigma the principal stretches.
+    // The Hessian in the principal frame, with sigma the principal stretches. The factor 1.0, here and in a flip's stiffness, is the source's.
     #[tactic(auto, unfolding(crate::specs::Hessian::principal_hessian))]
     fn principal_hessian(self, kappa: f32, sigma: Vec3) -> Mat3
         ensures { result ≡ spec.principal_hessian self.mu self.lambda kappa sigma }

@@ -22,6 +22,7 @@ fn records_test(due: Due, k: usize, s: &[u8], at: usize) -> Result<usize, Refuse
     for _ in 0..k {
         records::record_test(due, s, off, colour)?;
         let b = records::record_at(s, off);
+        // Of a point these are bytes of its position: they are handed on, and no test of a point reads them.
         colour = little_endian::get_u16(b, layout::ROW_COLOUR);
         off += b.len();
     }

@@ -123,7 +123,7 @@ impl Elimination {
         x
     }
 
-    // The inverse of the matrix that has these factors.
+    // The inverse of the matrix that has these factors. For the loop see strain's `mat_mul`.
     fn solve(&self) -> [f32; 36]
         ensures { result ≡ matrix.from_fn (spec.solved_at (going self.now.m self.now.rows)) }
     {

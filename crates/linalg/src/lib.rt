@@ -20,7 +20,7 @@ pub struct Eigen {
     pub vectors: Mat3,
 }
 
-// The values on the diagonal, and vector k from column k.
+// The values on the diagonal, and vector k from column k. Under the name of its rule, and used once: a `From` would be no plainer.
 fn eigen_of(t: Turning) -> Eigen
     ensures { result ≡ spec.eigen_of (steps.state_of t) }
 {

@@ -26,7 +26,7 @@ impl Stiffness {
     }
 }
 
-// Impulses d more.
+// Impulses d more. Rows and impulses are two values here and below: see cell_record's `rows_and_impulses`.
 #[tactic(auto, unfolding(crate::specs::NeoHookean::applied))]
 pub fn applied(rows: StrainRows, l: Impulses, d: &[f32; 6]) -> Solved<Impulses>
     ensures { result ≡ spec.applied rows.rot rows.coeffs rows.im l d.now }

@@ -69,7 +69,7 @@ fn renewed(b: Bytes, energy: Energy, strain: &[f32; 6], dt_grad: &[f32; 6]) -> B
     neo_hookean::renewal::renewed(coeffs, im, material_of(b), energy, strain, dt_grad)
 }
 
-// It returns where the block is kept. With `then` the proof does not close, unless the closure's clauses are written out.
+// It returns where the block is kept: for `then` the closure's clauses would have to be written out, which is longer.
 #[tactic(auto, unfolding(crate::specs::Parts::update_anew, stored::specs::Read::material_of))]
 pub fn updated(b: Bytes, held: Holds) -> Update
     ensures { result ≡ spec.update_anew held b.entry.bytes.now }

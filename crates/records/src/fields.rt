@@ -12,8 +12,8 @@ ghost use Rattle.records.specs.Outcomes.{RunsTo};
 use crate::{Kind, Refusal, Refused, RowKind, layout};
 
 // The bytes of a record, and the offset in the frame at which they start. How many there are stands in clauses: with a const parameter for
-// it the proof did not close, since the check covers no `F: Fn` of a function in such an impl, and `run` has one; each single test would
-// ask for its bound all the same.
+// it the proof did not close, since in an impl with a const parameter no function may have a closure's type as its own, as `run` has;
+// each single test would ask for its bound all the same.
 #[derive(Clone, Copy)]
 pub struct Fields<'a> {
     pub bytes: &'a [u8],

@@ -123,7 +123,8 @@ pub fn is_due(due: Due, kind: u16, len: u32) -> bool
     due_kind(due, kind, len).is_some()
 }
 
-// The kind of the record that starts at off, if six bytes, a kind and length that are due and the whole record are there.
+// The kind of the record that starts at off, if six bytes, a kind and length that are due and the whole record are there. That off lies in
+// the frame is asked, here and below, as an index asks it: a type of both would be made anew for each record.
 #[tactic(auto, using(crate::proofs::Shapes::shape_is, crate::proofs::Shapes::not_refused), unfolding(crate::specs::Answers::outcome))]
 fn shape(due: Due, s: &[u8], off: usize) -> Result<Kind, Refused>
     requires { off ≤ length s.now }

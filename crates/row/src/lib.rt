@@ -91,7 +91,7 @@ pub fn update_row(b: &mut [u8], held: Holds, least: f32)
 }
 
 // What each place is to lose. This and the next call other functions of each kind and put other fields: one function for both would take
-// six closures, to compute and to put by each kind.
+// six closures, to compute and to put by each kind; and a trait over the kinds a length for each, as a const argument, and three types.
 #[tactic(auto, using(crate::proofs::ByKind::by_phase), unfolding(rows::specs::Step::warmstart_of, stored::specs::Put::warm_constraint))]
 pub fn warm_row(b: &mut [u8], coeff: f32) -> Four<Vec3>
     requires { Whole b.old }

@@ -5,7 +5,7 @@ ghost use Rattle.rows_ffi.specs.Mirrors.{as_held, as_holds, as_lost, lost_of, as
 use c_types::FourVectors;
 use vector::{Four, Vec3};
 
-// What a place holds, where it is named. C has no Option and no enum with a conversion.
+// What a place holds, where it is named. C has no Option.
 #[repr(C)]
 #[derive(Clone, Copy)]
 pub struct Held {

@@ -50,6 +50,7 @@ pub fn component_mul<const N: usize>(a: &[f32; N], b: &[f32; N]) -> [f32; N]
     )
 }
 
+// Not by the array's own `map`: that asks that N floats fit in memory beside them, which is not known of every N.
 #[tactic(auto, using(loops::specs::Fill::tabulated), unfolding(crate::specs::Parts::scale))]
 pub fn scale<const N: usize>(a: &[f32; N], s: f32) -> [f32; N]
     ensures { result ≡ parts.scale N a.now s }
@@ -127,8 +128,9 @@ pub fn set_column(m: &mut [f32; 36], j: usize, c: &[f32; 6])
     }
 }
 
-// Column by column, as the columns lie: `from_fn` over all 36 entries would make each column six times. The same loop is in `ger` and in
-// inverse's `solve`: of one function over a closure each closure's clauses would be written out, since a column's number is below 6.
+// Column by column, as the columns lie: `from_fn` over all 36 entries would make each column six times. The same loop is in `ger`, cell's
+// `from_columns` and inverse's `solve`: of one function over a closure each closure's clauses, which are to say that a column's number is
+// below 6, would be longer than this loop.
 pub fn mat_mul(a: &[f32; 36], b: &[f32; 36]) -> [f32; 36]
     ensures { result ≡ matrix.mat_mul a.now b.now }
 {

@@ -23,8 +23,8 @@ pub struct Phases {
     pub warm: Option<f32>,
 }
 
-// What a sweep does with each row. A resweep solves the rows that are strained, and passes over the others. As a closure for the step
-// every function here would have to carry what it does in its clauses.
+// What a sweep does with each row. A resweep solves the rows that are strained, and passes over the others. Not an
+// `Option<Phases>`, whose None would not tell what is done; and as a closure every function here would carry in its clauses what it does.
 #[derive(Clone, Copy)]
 enum Turn {
     Main(Phases),
