@@ -109,7 +109,8 @@ fn block_column(k: Vec3, gk: Vec3, l: Vec3, gl: Vec3) -> [f32; 6]
     ]
 }
 
-// A 6x6 matrix of its columns, stored one by one: gathered by `from_fn` it took 98 ns for 10 to 17.
+// A 6x6 matrix of its columns, stored one by one: gathered by `from_fn` it took 98 ns for 10 to 17, and for `as_flattened` the proof did
+// not close, since nothing tells that each of the six has six floats. For the loop see strain's `mat_mul`.
 #[tactic(auto, using(loops::specs::Loops::counted), unfolding(crate::specs::Columns::from_columns))]
 pub fn from_columns(c: &[[f32; 6]; 6]) -> [f32; 36]
     ensures { result ≡ columns.from_columns c.now }
