@@ -1,3 +1,4 @@
--- Lemmas, and what words a record has past its end. Assumes nothing.
+-- Lemmas, the walk over a file by offsets, and what words a record has past its end. Assumes nothing.
 pub mod Compared
+pub mod Offsets
 pub mod Zeros

@@ -1,0 +1,41 @@
+-- The walk over a file's records, by the offset of the next one: how it begins, goes on and ends. Assumes nothing.
+use Rattle.std.specs.Prelude.{◌≡◌, ℕ, ◌+◌, ◌-◌, ◌*◌, ◌<◌, ◌≤◌, Bool, List, length}
+use Rattle.std.proofs.Math.Path.{refl}
+use Rattle.std.proofs.Common.{add-mul, add-one, arith}
+use Rattle.replay.specs.Words.{words_at}
+use Rattle.replay.specs.Tallies.{miss, misses, Tallied}
+
+-- `records` of them were passed, which end at `at`
+pub record Walked (agrees : List ℕ → Bool) (s : List ℕ) (size records differ at : ℕ) : Type 0 where
+  pub passed : at ≡ records * (4 * size)
+  pub low : at ≤ length s
+  pub fits : records ≤ at
+  pub few : differ ≤ records
+  pub counted : differ ≡ misses agrees s size records
+
+module _ {agrees : List ℕ → Bool} {s : List ℕ} {size : ℕ} where
+  pub begins : Walked agrees s size 0 0 0
+  unfolding misses
+  begins = record { passed = omega arith; low = omega arith; fits = omega arith; few = omega arith; counted = refl }
+
+  pub again : {records differ at d : ℕ} {w : List ℕ} → Walked agrees s size records differ at → 1 ≤ size → 4 * size ≤ length s - at → d ≤ 1
+      → w ≡ words_at s at size → d ≡ miss (agrees w) → Walked agrees s size (records + 1) (differ + d) (at + 4 * size)
+  unfolding misses
+  again {records} {differ} {at} {d} {w} h some fit small read e =
+      record {
+        passed = rw (add-mul records 1 (4 * size)) (omega (arith, h.passed));
+        low = omega (arith, h.low);
+        fits = omega (arith, h.fits);
+        few = omega (arith, h.few);
+        counted = rw (add-one records, ← h.counted, ← h.passed, ← read, ← e) refl;
+      }
+
+  pub ends : {records differ at : ℕ} → Walked agrees s size records differ at → length s - at < 4 * size
+      → Tallied agrees s size (record { records = records; differ = differ })
+  ends {records} {differ} {at} h short =
+      record {
+        whole = omega (arith, h.passed, h.low);
+        rest = omega (arith, h.passed, h.low);
+        counted = h.counted;
+        few = h.few;
+      }
