@@ -31,7 +31,8 @@ fn volume_step(u: Volume, impulse: f32, rate: f32, y: &[f32; 6]) -> f32
     u.inv_s * (u.rhs_vol - u.cfm_gain_vol * impulse + rate - dot6(&u.b, y))
 }
 
-// Strain impulses d and a volumetric impulse x more. Rows and impulses are two values here and below: see cell_record's `rows_and_impulses`.
+// Strain impulses d and a volumetric impulse x more. Rows and impulses are two values here and below: see cell_record's
+// `rows_and_impulses`.
 #[tactic(auto, unfolding(crate::specs::Corotational::applied))]
 fn applied(
     rows: StrainRows,

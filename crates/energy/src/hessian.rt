@@ -102,7 +102,8 @@ impl Lame {
         }
     }
 
-    // The Hessian in the principal frame, with sigma the principal stretches. The factor 1.0, here and in a flip's stiffness, is the source's.
+    // The Hessian in the principal frame, with sigma the principal stretches. The factor 1.0, here and in a flip's stiffness, is the
+    // source's.
     #[tactic(auto, unfolding(crate::specs::Hessian::principal_hessian))]
     fn principal_hessian(self, kappa: f32, sigma: Vec3) -> Mat3
         ensures { result ≡ spec.principal_hessian self.mu self.lambda kappa sigma }
