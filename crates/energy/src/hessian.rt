@@ -156,6 +156,7 @@ impl Lame {
         with_flip(self.flip_stiffness(kappa, sigma.x), q.y, q.z, sqrt2, &k)
     }
 
+    // Of s and kappa, not of an `Energy`: C, which calls it too, has no gradient to hand in.
     #[tactic(auto, unfolding(crate::specs::Hessian::hessian))]
     pub fn hessian(self, s: Mat3, kappa: f32) -> [f32; 36]
         ensures { result ≡ spec.hessian self.mu self.lambda s kappa }

@@ -10,7 +10,8 @@ ghost use Rattle.frame.specs.Check.{check_of};
 use records::{Due, Head, Refusal, Refused, layout};
 
 // The tests of k records, the first at `at`, each of what is due: the place behind the last of them. Points and rows go through one loop,
-// so that each record is handed the colour before it, which a row alone is tested against.
+// so that each record is handed the colour before it, which a row alone is tested against. That `at` lies in the frame is asked as records'
+// `shape` asks it.
 fn records_test(due: Due, k: usize, s: &[u8], at: usize) -> Result<usize, Refused>
     requires { at ≤ length s.now }
     ensures refusal { refusal_of result ≡ outcome (records_tests due k s.now at 0) }

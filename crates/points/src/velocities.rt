@@ -75,8 +75,8 @@ fn take_at(v: &mut [Vec3], id: u32, x: Vec3)
     }
 }
 
-// What each place of a row loses, place after place: a row may name one point twice. Four calls: a loop's closure would
-// have to say what is left of v after each.
+// What each place of a row loses, place after place: a row may name one point twice. Four calls: a `for`
+// over four pairs would be no shorter, and a closure would have to say what is left of v after each.
 #[tactic(auto, unfolding(crate::specs::Apart::lost))]
 pub fn take(v: &mut [Vec3], i: Ids, x: Four<Vec3>)
     ensures lost { v.new ≡ lost (length v.old) v.old i x }

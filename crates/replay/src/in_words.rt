@@ -69,7 +69,7 @@ impl<const N: usize> InWords for [f32; N] {
         from_fn(|i| f32::read(bytes, k + i))
     }
 
-    // By index: with `enumerate` the closure's clauses would be the same, and longer.
+    // By index: with `enumerate` the closure would need these clauses and one more, that x is part i.
     fn is_at(&self, bytes: &[u8], k: usize) -> bool {
         (0..N).all(
             |i: usize| -> bool

@@ -13,6 +13,7 @@ pub struct Tally {
 impl Tally {
     ghost use Rattle.replay.specs.Tallies.{miss};
 
+    // A constant under a name that says what it is: `Default` would be no plainer.
     pub const NONE: Tally = Tally {
         records: 0,
         differ: 0,
