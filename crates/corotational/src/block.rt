@@ -31,17 +31,24 @@ fn volume_step(u: Volume, impulse: f32, rate: f32, y: &[f32; 6]) -> f32
     u.inv_s * (u.rhs_vol - u.cfm_gain_vol * impulse + rate - dot6(&u.b, y))
 }
 
-// With the impulses `more`. Rows and impulses are two values here and below: see cell_record's `rows_and_impulses`.
+// Strain impulses d and a volumetric impulse x more. Rows and impulses are two values here and below: see cell_record's
+// `rows_and_impulses`; and d and x, for their speed, as in cell's `volume_losses`.
 #[tactic(auto, unfolding(crate::specs::Corotational::applied))]
-fn applied(rows: StrainRows, l: Impulses, more: Impulses, grad: Four<Vec3>) -> Solved<Impulses>
-    ensures { result ≡ spec.applied rows.rot rows.coeffs rows.im l more.strain grad more.vol }
+fn applied(
+    rows: StrainRows,
+    l: Impulses,
+    d: &[f32; 6],
+    grad: Four<Vec3>,
+    x: f32,
+) -> Solved<Impulses>
+    ensures { result ≡ spec.applied rows.rot rows.coeffs rows.im l d.now grad x }
 {
     Solved {
         state: Impulses {
-            strain: add(&l.strain, &more.strain),
-            vol: l.vol + more.vol,
+            strain: add(&l.strain, d),
+            vol: l.vol + x,
         },
-        loss: rows.volume_losses(more, grad),
+        loss: rows.volume_losses(d, grad, x),
     }
 }
 
@@ -56,9 +63,9 @@ pub fn solve_rows(
 ) -> Solved<Impulses>
     ensures { result ≡ spec.solve_rows rows.rot rows.coeffs rows.im l u vel y.now }
 {
-    let vol = volume_step(u, l.vol, places::rate_of(u.grad_vol, vel), y);
-    let strain = sub(y, &scale(&u.z, vol));
-    applied(rows, l, Impulses { strain, vol }, u.grad_vol)
+    let x = volume_step(u, l.vol, places::rate_of(u.grad_vol, vel), y);
+    let correction = scale(&u.z, x);
+    applied(rows, l, &sub(y, &correction), u.grad_vol, x)
 }
 
 #[tactic(auto, unfolding(crate::specs::Corotational::warmstart_corotational))]
@@ -73,6 +80,6 @@ pub fn warmstart_corotational(
     let warm = l.scaled(coeff);
     Solved {
         state: warm,
-        loss: rows.volume_losses(warm, grad),
+        loss: rows.volume_losses(&warm.strain, grad, warm.vol),
     }
 }
