@@ -31,13 +31,13 @@ is_kept strain b = is_fresh strain (floats_at 6 b at.neo_stiffness_strain)
 unfoldable pub block_anew : Energy → List Float → List Float → List ℕ → Block
 block_anew e strain dtGrad b = renewed (four_at b at.elastic_coeffs) (masses_at b at.row_im) (material_of b) e strain dtGrad
 
--- what an update assigns
+-- what an update assigns, with the energy that it computed on the way
 unfoldable pub update_anew : Holds → List ℕ → Update
 update_anew held b =
     let pose = update_pose (cell_of b) (pose_of b) held in
     let e = energy_anew pose.strain b in
     let dt_grad = dt_grad_anew e b in
-    record { pose = pose; dt_grad = dt_grad; block = cond (is_kept pose.strain b) None (Some (block_anew e pose.strain dt_grad b)) }
+    record { pose = pose; energy = e; dt_grad = dt_grad; block = cond (is_kept pose.strain b) None (Some (block_anew e pose.strain dt_grad b)) }
 
 -- a renewed block put into the record
 abbrev pub put_anew : Block → List ℕ → List ℕ

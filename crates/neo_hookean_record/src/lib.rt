@@ -45,15 +45,17 @@ fn material_of(b: Bytes) -> Material
     }
 }
 
-// What an update assigns: the block only after a move, and otherwise it is neither read nor written.
+// What an update assigns, with the energy that it computed on the way: the block only after a move, and otherwise it is neither read nor
+// written.
 #[derive(Clone, Copy)]
 pub struct Update {
     pub pose: Pose,
+    pub energy: Energy,
     pub dt_grad: [f32; 6],
     pub block: Option<Block>,
 }
 
-fn is_kept(b: Bytes, strain: &[f32; 6]) -> bool
+pub fn is_kept(b: Bytes, strain: &[f32; 6]) -> bool
     ensures { result ≡ spec.is_kept strain.now b.entry.bytes.now }
 {
     let last = b.get(layout::NEO_STIFFNESS_STRAIN);
@@ -61,7 +63,7 @@ fn is_kept(b: Bytes, strain: &[f32; 6]) -> bool
 }
 
 #[tactic(auto, unfolding(crate::specs::Parts::block_anew, floats::specs::Fields::four_at, floats::specs::Fields::masses_at))]
-fn renewed(b: Bytes, energy: Energy, strain: &[f32; 6], dt_grad: &[f32; 6]) -> Block
+pub fn renewed(b: Bytes, energy: Energy, strain: &[f32; 6], dt_grad: &[f32; 6]) -> Block
     ensures { result ≡ spec.block_anew energy strain.now dt_grad.now b.entry.bytes.now }
 {
     let coeffs = b.get(layout::ELASTIC_COEFFS);
@@ -80,12 +82,14 @@ pub fn updated(b: Bytes, held: Holds) -> Update
     if is_kept(b, &pose.strain) {
         return Update {
             pose,
+            energy,
             dt_grad,
             block: None,
         };
     }
     Update {
         pose,
+        energy,
         dt_grad,
         block: Some(renewed(b, energy, &pose.strain, &dt_grad)),
     }
