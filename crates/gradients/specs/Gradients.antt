@@ -1,5 +1,5 @@
 -- The value and the gradients of each type of scalar row: `compute_gradients` of soft_scalar_constraint.rs. Definitions only. Assumes nothing.
-use Rattle.std.specs.Prelude.{cond, Float}
+use Rattle.std.specs.Prelude.{ℕ, cond, eqb, Float}
 use Rattle.std.specs.Float.Ieee.{lt}
 use Rattle.real.specs.Float.{◌⊖◌, f0, f1}
 use Rattle.vector.specs.Vector as v
@@ -9,8 +9,6 @@ use Rattle.shape.specs.Rotation.{nano}
 use Rattle.shape.specs.Cell.{cell_volume, cell_volume_gradients}
 use Rattle.gradients.specs.Dihedral.{dihedral_gradients}
 use Rattle.gradients.specs.declared.Gradients.{Gradients}
-use Rattle.gradients.specs.declared.ScalarKind.{ScalarKind}
-use Rattle.gradients.specs.declared.ScalarKind.TheVariants.{Distance, Dihedral, CellVolume}
 
 unfoldable pub unit_x : Vec3
 unit_x = record { x = f1; y = f0; z = f0 }
@@ -27,8 +25,7 @@ distance_gradients pos grad rest =
 unfoldable pub volume_gradients : Four Vec3 → Float → Gradients
 volume_gradients pos rest = record { grad = cell_volume_gradients pos; error = cell_volume pos ⊖ rest }
 
--- by the type
-unfoldable pub compute_gradients : ScalarKind → Four Vec3 → Four Vec3 → Float → Gradients
-compute_gradients Distance pos grad rest = distance_gradients pos grad rest
-compute_gradients Dihedral pos grad rest = dihedral_gradients pos rest
-compute_gradients CellVolume pos grad rest = volume_gradients pos rest
+-- by the type: 0 distance, 1 dihedral, 2 cell volume. A record that is accepted has no other number; here any other counts as 2
+unfoldable pub compute_gradients : ℕ → Four Vec3 → Four Vec3 → Float → Gradients
+compute_gradients kind pos grad rest =
+    cond (eqb kind 0) (distance_gradients pos grad rest) (cond (eqb kind 1) (dihedral_gradients pos rest) (volume_gradients pos rest))

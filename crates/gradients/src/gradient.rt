@@ -45,16 +45,12 @@ fn volume_gradients(pos: Four<Vec3>, rest: f32) -> Gradients
     }
 }
 
-#[tactic(auto, unfolding(crate::specs::Gradients::compute_gradients))]
-pub fn compute_gradients(
-    kind: ScalarKind,
-    pos: Four<Vec3>,
-    grad: Four<Vec3>,
-    rest: f32,
-) -> Gradients
+// By the type that the number stands for.
+#[tactic(auto, using(crate::specs::Kind::gradients_by_kind))]
+pub fn compute_gradients(kind: u32, pos: Four<Vec3>, grad: Four<Vec3>, rest: f32) -> Gradients
     ensures { result ≡ spec.compute_gradients kind pos grad rest }
 {
-    match kind {
+    match ScalarKind::from(kind) {
         ScalarKind::Distance => distance_gradients(pos, grad, rest),
         ScalarKind::Dihedral => dihedral_gradients(pos, rest),
         ScalarKind::CellVolume => volume_gradients(pos, rest),

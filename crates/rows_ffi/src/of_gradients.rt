@@ -2,13 +2,11 @@
 ghost use Rattle.std.specs.Prelude.{◌≡◌};
 ghost use Rattle.gradients.specs.Dihedral as dihedral;
 ghost use Rattle.gradients.specs.Gradients as gradients;
-ghost use Rattle.gradients.specs.Kind.{kind_of};
 ghost use Rattle.c_types.specs.FourVectors.{as_four};
 ghost use Rattle.rows_ffi.specs.Mirrors.{as_gradients};
 
 use crate::mirrors::Gradients;
 use c_types::FourVectors;
-use gradients::ScalarKind;
 
 #[unsafe(no_mangle)]
 pub extern "C" fn rt_dihedral_gradients(pos: FourVectors, rest: f32) -> Gradients
@@ -17,7 +15,6 @@ pub extern "C" fn rt_dihedral_gradients(pos: FourVectors, rest: f32) -> Gradient
     gradients::dihedral::dihedral_gradients(pos.into(), rest).into()
 }
 
-// The kind is its number: C has no enum with a conversion.
 #[unsafe(no_mangle)]
 pub extern "C" fn rt_scalar_compute_gradients(
     kind: u32,
@@ -25,8 +22,7 @@ pub extern "C" fn rt_scalar_compute_gradients(
     grad: FourVectors,
     rest: f32,
 ) -> Gradients
-    ensures { as_gradients result ≡ gradients.compute_gradients (kind_of kind) (as_four pos) (as_four grad) rest }
+    ensures { as_gradients result ≡ gradients.compute_gradients kind (as_four pos) (as_four grad) rest }
 {
-    let kind = ScalarKind::from(kind);
     gradients::gradient::compute_gradients(kind, pos.into(), grad.into(), rest).into()
 }

@@ -1,6 +1,6 @@
 -- What the rules come to in particular cases. Assumes nothing.
-use Rattle.std.specs.Prelude.{◌≡◌, false, Float}
-use Rattle.std.proofs.Math.Path.{refl}
+use Rattle.std.specs.Prelude.{◌≡◌, false, eqb, Float}
+use Rattle.std.proofs.Math.Path.{refl, sym, ◌∙◌}
 use Rattle.std.specs.Float.{nan}
 use Rattle.real.specs.Float.{f0}
 use Rattle.real.proofs.Laws.{clamp_nan}
@@ -8,7 +8,7 @@ use Rattle.real.specs.Real.{max}
 use Rattle.vector.specs.declared.Vec3.{Vec3}
 use Rattle.vector.specs.declared.Four.{Four}
 use Rattle.places.specs.Places.{Holds, Masses}
-use Rattle.gradients.specs.Kind.{is_distance}
+use Rattle.gradients.specs.Kind.{kind_of, is_distance, is_distance_of}
 use Rattle.scalar.specs.Row.{weight_of, respond, update, is_strained, sought_of, total_of, with_peak, begin}
 use Rattle.scalar.specs.declared.Spring.{Spring}
 use Rattle.scalar.specs.declared.Response.{Response}
@@ -37,9 +37,13 @@ module _ (r : SoftScalarConstraint) (held : Holds) where
   impulse_kept = refl
 
 -- only a distance row is strained
-pub never_strained : (r : SoftScalarConstraint) (least : Float) → is_distance r.kind ≡ false → is_strained r least ≡ false
+pub never_strained : (r : SoftScalarConstraint) (least : Float) → eqb r.kind 0 ≡ false → is_strained r least ≡ false
 unfolding is_strained
 never_strained r least h = rw h refl
+
+-- the same by what the number stands for
+pub never_strained_by_kind : (r : SoftScalarConstraint) (least : Float) → is_distance (kind_of r.kind) ≡ false → is_strained r least ≡ false
+never_strained_by_kind r least h = never_strained r least (sym (is_distance_of r.kind) ∙ h)
 
 -- ---- solve
 

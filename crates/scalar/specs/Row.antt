@@ -1,5 +1,5 @@
 -- The scalar row: update, warm start, solve and the test for strain, as soft_scalar_constraint.rs has them, and what `solve_color_constraint` does with one. Definitions only. Assumes nothing.
-use Rattle.std.specs.Prelude.{ℕ, Bool, cond, ◌&&◌, ltb, Float}
+use Rattle.std.specs.Prelude.{ℕ, Bool, cond, ◌&&◌, eqb, ltb, Float}
 use Rattle.std.specs.Float.Ieee.{lt}
 use Rattle.real.specs.Float.{◌⊕◌, ◌⊖◌, ◌⊗◌, ◌⊘◌, f0}
 use Rattle.real.specs.Real.{abs, max, clamp, inv}
@@ -8,7 +8,6 @@ use Rattle.vector.specs.declared.Vec3.{Vec3}
 use Rattle.vector.specs.declared.Four.{Four}
 use Rattle.places.specs.Places.{Holds, Masses, refreshed, rate_of}
 use Rattle.places.specs.declared.Solved.{Solved}
-use Rattle.gradients.specs.Kind.{is_distance}
 use Rattle.gradients.specs.Gradients.{compute_gradients}
 use Rattle.scalar.specs.declared.Spring.{Spring}
 use Rattle.scalar.specs.declared.Response.{Response}
@@ -47,7 +46,7 @@ update r held =
 -- a distance row whose relative error, by its bias, is past the least strain; the other types never are
 unfoldable pub is_strained : SoftScalarConstraint → Float → Bool
 is_strained r least =
-    is_distance r.kind
+    eqb r.kind 0
     && lt f0 r.spring.erp_inv_dt
     && lt f0 r.spring.rest
     && lt (least ⊗ r.spring.rest) (abs (r.response.rhs ⊘ r.spring.erp_inv_dt))

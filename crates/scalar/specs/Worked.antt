@@ -13,7 +13,6 @@ use Rattle.vector.specs.declared.Vec3.{Vec3}
 use Rattle.vector.specs.declared.Four.{Four}
 use Rattle.places.specs.Places as places
 use Rattle.places.specs.Places.{refreshed, rate_of}
-use Rattle.gradients.specs.declared.ScalarKind.TheVariants.{Distance}
 use Rattle.gradients.specs.Gradients.{compute_gradients, distance_gradients, unit_x}
 use Rattle.scalar.specs.Row.{weight_of, respond, update, losses, sought_of, total_of, solve, with_peak, begin}
 use Rattle.scalar.specs.declared.SoftScalarConstraint.{SoftScalarConstraint}
@@ -28,7 +27,7 @@ origins = record { a = on_x f0; b = on_x f0; c = on_x f0; d = on_x f0 }
 abbrev distance_row : Float → SoftScalarConstraint
 distance_row upper =
     record {
-      kind = Distance;
+      kind = 0;
       count = 2;
       pos = origins;
       im = record { a = f1; b = f1; c = f1; d = f1 };

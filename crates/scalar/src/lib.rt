@@ -32,11 +32,12 @@ pub struct Response {
     pub peak_impulse: f32,
 }
 
-// A row names its first `count` places: the record's own number, which an update compares.
+// `kind` and `count` are the record's own numbers: what the row constrains goes by `ScalarKind::from`, and the row names its first `count`
+// places, which an update compares.
 #[repr(C)]
 #[derive(Clone, Copy)]
 pub struct SoftScalarConstraint {
-    pub kind: ScalarKind,
+    pub kind: u32,
     pub count: u32,
     pub pos: Four<Vec3>,
     pub im: Masses,
@@ -97,11 +98,11 @@ impl SoftScalarConstraint {
         }
     }
 
-    #[tactic(auto, unfolding(crate::specs::Row::is_strained))]
+    #[tactic(auto, unfolding(crate::specs::Row::is_strained, gradients::specs::Kind::kind_of))]
     pub fn is_strained(self, least: f32) -> bool
         ensures { result ≡ spec.is_strained self least }
     {
-        (self.kind == ScalarKind::Distance)
+        (ScalarKind::from(self.kind) == ScalarKind::Distance)
             & (self.spring.erp_inv_dt > 0.0)
             & (self.spring.rest > 0.0)
             & (abs(self.response.rhs / self.spring.erp_inv_dt) > least * self.spring.rest)

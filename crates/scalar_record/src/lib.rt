@@ -13,7 +13,6 @@ ghost use Rattle.stored.specs.Put.{put_flag, put_response, put_scalar};
 
 use floats::Field;
 use floats::row_bytes::RowBytes;
-use gradients::ScalarKind;
 use places::{Holds, Solved};
 use records::layout;
 use scalar::{Response, SoftScalarConstraint, Spring};
@@ -60,7 +59,7 @@ fn row_of(b: Bytes) -> SoftScalarConstraint
     ensures { result ≡ scalar_of b.entry.bytes.now }
 {
     SoftScalarConstraint {
-        kind: ScalarKind::from(u32::from(b.get_u16(layout::SCALAR_TYPE))),
+        kind: u32::from(b.get_u16(layout::SCALAR_TYPE)),
         count: u32::from(b.get_u16(layout::SCALAR_COUNT)),
         pos: b.get(layout::ROW_POS),
         im: b.get(layout::ROW_IM),

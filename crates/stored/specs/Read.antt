@@ -5,7 +5,6 @@ use Rattle.records.specs.Layout as at
 use Rattle.scalar.specs.declared.SoftScalarConstraint.{SoftScalarConstraint}
 use Rattle.scalar.specs.declared.Spring.{Spring}
 use Rattle.scalar.specs.declared.Response.{Response}
-use Rattle.gradients.specs.Kind.{kind_of}
 use Rattle.cell.specs.declared.Cell.{Cell}
 use Rattle.cell.specs.declared.Pose.{Pose}
 use Rattle.cell.specs.declared.Compliance.{Compliance}
@@ -44,7 +43,7 @@ response_at b =
 unfoldable pub scalar_of : List ℕ → SoftScalarConstraint
 scalar_of b =
     record {
-      kind = kind_of (le16 b at.scalar_type);
+      kind = le16 b at.scalar_type;
       count = le16 b at.scalar_count;
       pos = four_at b at.row_pos;
       im = masses_at b at.row_im;

@@ -7,9 +7,8 @@ use Rattle.little_endian.proofs.Parts.{Bytes}
 use Rattle.vector.specs.declared.Vec3.{Vec3}
 use Rattle.vector.specs.declared.Four.{Four}
 use Rattle.places.specs.Places.{Holds, held_or, refreshed}
-use Rattle.gradients.specs.Kind.{kind_of}
 use Rattle.gradients.specs.Gradients.{distance_gradients, compute_gradients}
-use Rattle.gradients.specs.declared.ScalarKind.TheVariants.{Distance, Dihedral, CellVolume}
+use Rattle.gradients.specs.declared.Gradients.{Gradients}
 use Rattle.records.specs.Layout as at
 use Rattle.floats.specs.Fields.{vec3_at, four_at, put_vec3, put_four}
 use Rattle.floats.proofs.Same.{Finite3, put_vec3_same, bytes_set, bytes_put_vec3}
@@ -162,13 +161,12 @@ module _ (k : ℕ) (b c : List ℕ) (a : Agree c b at.scalar_grad 48) (y : Bytes
       ∙ vec3_beside k c 94 g.a (out_part k 94 24 94 12 (omega arith) (omega arith) o)
 
   module _ (pos : Four Vec3) (rest : Float) where
-    gradients_by : (t u : Bool) → Out k at.scalar_grad 24 → Outside k (when (not t) (floats (at.scalar_grad + 24) 6))
-        → Stays (compute_gradients (cond t Distance (cond u Dihedral CellVolume)) pos (four_at b at.scalar_grad) rest).grad
-    unfolding compute_gradients distance_gradients four_at
-    gradients_by true u o p = two_assigned _ refl refl o
-    gradients_by false true o p = four_assigned _ o p.0
-    gradients_by false false o p = four_assigned _ o p.0
+    gradients_by : (t : Bool) (g : Gradients) → Out k at.scalar_grad 24 → Outside k (when (not t) (floats (at.scalar_grad + 24) 6))
+        → Stays (cond t (distance_gradients pos (four_at b at.scalar_grad) rest) g).grad
+    unfolding distance_gradients four_at
+    gradients_by true g o p = two_assigned _ refl refl o
+    gradients_by false g o p = four_assigned g.grad o p.0
 
-    pub gradients_stay : (type : ℕ) → Outside k (gradients type) → Stays (compute_gradients (kind_of type) pos (four_at b at.scalar_grad) rest).grad
-    unfolding gradients kind_of
-    gradients_stay type o = gradients_by (eqb type 0) (eqb type 1) o.0 o.1
+    pub gradients_stay : (type : ℕ) → Outside k (gradients type) → Stays (compute_gradients type pos (four_at b at.scalar_grad) rest).grad
+    unfolding gradients compute_gradients
+    gradients_stay type o = gradients_by (eqb type 0) _ o.0 o.1

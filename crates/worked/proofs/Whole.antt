@@ -12,7 +12,6 @@ use Rattle.vector.specs.Vector as v
 use Rattle.linalg.specs.Worked as linalg
 use Rattle.energy.specs.Worked as neo
 use Rattle.places.specs.Places.{refreshed, rate_of}
-use Rattle.gradients.specs.Kind.{kind_of}
 use Rattle.gradients.specs.Gradients.{compute_gradients, distance_gradients, unit_x}
 use Rattle.scalar.specs.Row as s
 use Rattle.rows.specs.Row as row
@@ -36,7 +35,7 @@ unfolding check_of frame_tests extra record_tests records_tests end_of shape is_
 checks = ((refl, (refl, (refl, (refl, tt)))), (refl, (refl, tt)))
 
 runs : Holds distances
-unfolding check_of frame_tests extra record_tests records_tests end_of shape is_due is_pair fields head_fields point_fields scalar_fields scalar_codes scalar_floats elastic_codes corotational_fields neo_hookean_fields limit16 limit32 code finite bound ordered cap colour_from run clash_tests clashes key_of count_of any_of named_by first_of from le16 le32 is_finite is_nan leaves run_of lay swept records flatten step.update step.update_of step.strained_of step.solve step.solve_of s.begin s.update s.with_peak s.weight_of s.respond s.is_strained s.solve s.total_of s.sought_of rate_of s.losses kind_of compute_gradients distance_gradients unit_x refreshed row.key_of row.names_of row.holds_of row_of constraint_of scalar_of spring_at response_at four_at vec3_at masses_at ids_at put_vec3 put_four put_response put_scalar put_constraint put_update solve_constraint put_solve position velocity lose v.zero_vector v.sub v.neg v.scale v.divide v.dot v.length_of r.abs r.max r.clamp r.inv r.is_tiny root_of root_bits sig power near_root floor_root floor_from count_leading_zeros to_bits of_bits ieee.of_fields ieee.lt ieee.le ieee.eq ieee.add ieee.sub ieee.neg ieee.mul ieee.div ieee.sum ieee.round ieee.units ieee.odd ieee.span ieee.climb ieee.size
+unfolding check_of frame_tests extra record_tests records_tests end_of shape is_due is_pair fields head_fields point_fields scalar_fields scalar_codes scalar_floats elastic_codes corotational_fields neo_hookean_fields limit16 limit32 code finite bound ordered cap colour_from run clash_tests clashes key_of count_of any_of named_by first_of from le16 le32 is_finite is_nan leaves run_of lay swept records flatten step.update step.update_of step.strained_of step.solve step.solve_of s.begin s.update s.with_peak s.weight_of s.respond s.is_strained s.solve s.total_of s.sought_of rate_of s.losses compute_gradients distance_gradients unit_x refreshed row.key_of row.names_of row.holds_of row_of constraint_of scalar_of spring_at response_at four_at vec3_at masses_at ids_at put_vec3 put_four put_response put_scalar put_constraint put_update solve_constraint put_solve position velocity lose v.zero_vector v.sub v.neg v.scale v.divide v.dot v.length_of r.abs r.max r.clamp r.inv r.is_tiny root_of root_bits sig power near_root floor_root floor_from count_leading_zeros to_bits of_bits ieee.of_fields ieee.lt ieee.le ieee.eq ieee.add ieee.sub ieee.neg ieee.mul ieee.div ieee.sum ieee.round ieee.units ieee.odd ieee.span ieee.climb ieee.size
 runs = (refl, (refl, (refl, (refl, tt))))
 
 pub holds : Holds table
