@@ -32,7 +32,7 @@ pub fn signum(x: f32) -> f32
     if x.is_nan() {
         return x;
     }
-    pick(x.is_sign_negative(), -1.0, 1.0)
+    pick(0x8000_0000 <= x.to_bits(), -1.0, 1.0)
 }
 
 // The library's `max` leaves open which zero it gives of two: every machine is to give the same.

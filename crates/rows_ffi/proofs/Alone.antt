@@ -1,14 +1,9 @@
 -- A record that stands alone is a record in its frame. Assumes nothing.
-use Rattle.std.proofs.Common.{ℕ, zero, suc, ◌+◌, ◌*◌, ◌-◌, ◌/◌, ◌%◌, ◌≤◌, ◌<◌, ◌≡◌, refl, sym, ap, subst, ◌∙◌, Bool, true, false, cond, not}
-use Rattle.std.proofs.Common.{◌&&◌, ◌||◌, List, [], ◌∷◌, ◌++◌, arith, T, eqb, leb, ltb, length, eqb-true, ne_eqb, leb-true, le-leb, lt-ltb}
-use Rattle.std.proofs.Common.{le-ltb}
-use Rattle.std.specs.Float.Ieee.{binary32, of_bits, is_nan}
+use Rattle.std.proofs.Common.{ℕ, zero, suc, ◌+◌, ◌*◌, ◌-◌, ◌/◌, ◌%◌, ◌≤◌, ◌<◌, ◌≡◌, refl, sym, subst, ◌∙◌, Bool, true, false, cond}
+use Rattle.std.proofs.Common.{◌&&◌, ◌||◌, List, arith, T, eqb, leb, length, eqb-true, ne_eqb, leb-true, le-leb}
 use Rattle.std.proofs.Math.Decide.{dec_lt}
 use Rattle.std.proofs.lemmas.Bool.{eqb-false, lt-leb}
-use Rattle.std.specs.List.{list_all, range_with_len}
-use Rattle.std.proofs.lemmas.List.Folds.{list_all-append}
 use Rattle.little_endian.specs.Bytes.{le16, le32}
-use Rattle.little_endian.proofs.Floats.{nan_bits_lem}
 use Rattle.records.specs.Records.{record_length}
 use Rattle.records.proofs.ByKind.{and_both}
 use Rattle.floats.specs.Written.{Written, AllWritten}
@@ -84,35 +79,6 @@ module _ (s : List ℕ) where
   short h = rw (lt-leb 6 (length s) h) refl
 
 -- ---- what the code tests
-
--- a pattern is no NaN's or the one that is written
-pub by_nan : (n : ℕ) → is_written n ≡ (not (is_nan (of_bits binary32 n)) || eqb n 2143289344)
-unfolding is_written
-by_nan n = rw (nan_bits_lem n) (ap (λ (t : Bool). t || eqb n 2143289344) (not_above (n % 2147483648) 2139095040))
-  where
-    not_above : (a b : ℕ) → leb a b ≡ not (ltb b a)
-    not_above a b = elim (dec_lt b a) [
-      | yes h ↦ lt-leb a b h ∙ sym (ap not (lt-ltb b a h))
-      | no h ↦ le-leb a b (omega arith) ∙ sym (ap not (le-ltb b a (omega arith)))
-    ]
-
--- n floats, one after another
-pub each_is : (n : ℕ) (s : List ℕ) → list_all (λ i. is_written (le32 s (30 + 4 * i))) (range_with_len 0 n) ≡ all_written n s
-unfolding all_written
-each_is zero s = refl
-each_is (suc n) s =
-    ap (list_all (λ i. is_written (le32 s (30 + 4 * i)))) (let e : 0 + n ≡ n = omega arith in one_more 0 n ∙ ap (λ (k : ℕ). range_with_len 0 n ++ (k ∷ [])) e)
-    ∙ list_all-append (λ i. is_written (le32 s (30 + 4 * i))) (range_with_len 0 n) (n ∷ [])
-    ∙ last (list_all (λ i. is_written (le32 s (30 + 4 * i))) (range_with_len 0 n)) (all_written n s) (is_written (le32 s (30 + 4 * n))) (each_is n s)
-  where
-    one_more : (a n : ℕ) → range_with_len a (suc n) ≡ range_with_len a n ++ ((a + n) ∷ [])
-    one_more a zero = let e : a ≡ a + 0 = omega arith in ap (◌∷ []) e
-    one_more a (suc n) = let e : a + 1 + n ≡ a + suc n = omega arith in ap (a ∷◌) (one_more (a + 1) n ∙ ap (λ (k : ℕ). range_with_len (a + 1) n ++ (k ∷ [])) e)
-
-    last : (t u b : Bool) → t ≡ u → (t && (b && true)) ≡ (u && b)
-    last true u true h = rw (← h) refl
-    last true u false h = rw (← h) refl
-    last false u b h = rw (← h) refl
 
 four_more : (a b : ℕ) → leb a b ≡ leb (4 + a) (4 + b)
 four_more a b = elim (dec_lt b a) [

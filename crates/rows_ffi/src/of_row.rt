@@ -1,7 +1,6 @@
 // The exports of the crate `row`: the phases of a row of any kind, on the bytes of its record as a frame has them. A caller's bytes may be
 // anything: those that are no row's record are left alone, and the answer says so.
 ghost use Rattle.std.specs.Prelude.{◌≡◌, ◌+◌, ◌*◌, ◌≤◌, length};
-ghost use Rattle.little_endian.specs.Bytes.{le32};
 ghost use Rattle.rows_ffi.specs.Mirrors.{as_holds, as_lost};
 ghost use Rattle.rows_ffi.specs.Record as spec;
 
@@ -22,21 +21,23 @@ fn is_record(b: &[u8]) -> bool
     kind.due() == Due::Row && 4 + (n as usize) == b.len() && kind.length() <= n
 }
 
-// Whether the float at `at` is no NaN, or a NaN by the one pattern that is written.
-#[tactic(auto, using(crate::proofs::Alone::by_nan))]
-fn is_written(b: &[u8], at: usize) -> bool
-    requires { at + 4 ≤ length b.now }
-    ensures { result ≡ spec.is_written (le32 b.now at) }
+// Whether a pattern is no NaN's, or the one that is written. By bits it has no branch.
+fn is_written(n: u32) -> bool
+    ensures { result ≡ spec.is_written n }
 {
-    !little_endian::is_nan_at(b, at) || little_endian::get_u32(b, at) == floats::NAN
+    (n % 0x8000_0000 <= 0x7f80_0000) | (n == floats::NAN)
 }
 
-// Whether n floats from the first of a row on are.
+// Whether n floats from the first of a row on are. There is no way out before the last, so that the compiler tests several at once.
 fn all_written(b: &[u8], n: usize) -> bool
     requires { 30 + 4 * n ≤ length b.now }
     ensures { result ≡ spec.all_written n b.now }
 {
-    (0..n).all(|i| is_written(b, layout::ROW_POS + 4 * i))
+    let mut all = true;
+    for i in 0..n {
+        all &= is_written(little_endian::get_u32(b, layout::ROW_POS + 4 * i));
+    }
+    all
 }
 
 // Whether the bytes are one row's record, with floats as they are written.

@@ -1,13 +1,17 @@
--- `rows_ffi::of_row::all_written` meets its contract: each float of the range is tested. Assumes nothing.
-use Rattle.std.proofs.Common.{◌+◌, ◌*◌, ◌∙◌, refl, rules, arith}
-use Rattle.std.proofs.lemmas.Iterator.{YieldsList-from_range}
-use Rattle.std.proofs.lemmas.Iterator.Search.{all_from_yields_List}
-use Rattle.little_endian.specs.Bytes.{le32}
-use Rattle.rows_ffi.specs.Record.{is_written}
-use Rattle.rows_ffi.proofs.Alone.{each_is}
+-- `rows_ffi::of_row::all_written` meets its contract: one float a turn. Assumes nothing.
+use Rattle.std.proofs.Common.{◌∙◌, ap, Bool, ◌&&◌, rules}
+use Rattle.loops.specs.Loops.{ran_none, ran_more, ran_all}
+use Rattle.rows_ffi.specs.Record.{is_written, all_written}
 use Rattle.rows_ffi.proofs.of_row.all_written.Goals as goal
 
+pub loop-i-init : goal.loop-i-init
+loop-i-init c = ran_none
+
+pub loop-i-preserved : goal.loop-i-preserved
+loop-i-preserved c =
+    ran_more c.loop-i.invariant (search rules)
+    (ap (λ (t : Bool). c.loop-i.all && t) (c.is_written-all.ensures ∙ ap is_written c.get_u32.ensures))
+
 pub returns : goal.returns
-returns c =
-    all_from_yields_List (λ i. is_written (le32 c.args.b.now (30 + 4 * i))) _ _ c.all.result c.all.ensures.ran (YieldsList-from_range 0 c.args.n c.args.n refl (omega arith)) (λ i t q k. search rules)
-    ∙ each_is c.args.n c.args.b.now
+unfolding all_written
+returns c = ran_all c.loop-i.invariant (search rules)
