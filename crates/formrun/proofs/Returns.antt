@@ -1,4 +1,4 @@
--- What each return of `answer` writes is the output. Assumes nothing.
+-- What each return of `answer` gives is the output. Assumes nothing.
 use Rattle.std.specs.Prelude.{◌≡◌, ℕ, ◌<◌, ◌≤◌, List, length, Result, Ok, Err}
 use Rattle.std.proofs.Common.{refl, lt-ltb, le-ltb, ne_eqb}
 use Rattle.records.specs.declared.Refused.{Refused}

@@ -2,11 +2,11 @@
 use Rattle.std.proofs.Common.{◌≡◌, refl, ap, subst, ◌∙◌, Bool, true, false, List, [], ◌∷◌, ℕ, ◌≤◌, ◌<◌, arith, leb, length, take, take_all}
 use Rattle.std.proofs.Common.{length-take-le, leb-true, leb-false, lt-ltb, None, Some, IfSome}
 use Rattle.std.specs.declared.option.Option.{Option}
-use Rattle.std.specs.Option.{option_map}
 use Rattle.std.specs.Io.KnownBytes.{Appends}
 use Rattle.records.specs.Answers.{first_of, from}
 use Rattle.records.specs.Records.{record_tests, shape}
 use Rattle.frame.specs.Check.{frame_tests, check_of}
+use Rattle.formrun.specs.Reading.{Brought}
 use Rattle.formrun.specs.Output.{output_of, refusal, decimal, decimal_in}
 
 -- no input: `refused 1 at 0` and a newline
@@ -31,8 +31,8 @@ enough room s h = pick (leb (length s) room) refl
 pub first_decide : (s : List ℕ) → output_of (take 65537 s) ≡ output_of s
 first_decide s = enough 65537 s (omega arith)
 
--- what is written for the first 65,537 bytes is the output of the whole input, where it is known
-pub served : (known old new : Option (List ℕ)) (s : List ℕ) → IfSome (option_map (take 65537) known) (λ xs. s ≡ xs) → Appends old new (output_of s)
-    → IfSome known (λ xs. Appends old new (output_of xs))
-served None old new s read h = tt
-served (Some xs) old new s read h = subst (Appends old new) (ap output_of read ∙ first_decide xs) h
+-- what is written is the output of the whole input, where it is known
+pub served : (known old new : Option (List ℕ)) (len : ℕ) (s bytes : List ℕ) → 65537 ≤ length s → IfSome known (Brought len s) → bytes ≡ output_of (take len s)
+    → Appends old new bytes → IfSome known (λ xs. Appends old new (output_of xs))
+served None old new len s bytes room read e h = tt
+served (Some xs) old new len s bytes room read e h = subst (Appends old new) (e ∙ ap output_of read ∙ enough (length s) xs room) h

@@ -1,11 +1,13 @@
--- What is written is the output of what was read. Assumes nothing.
+-- The bytes that are written are the answer to those that were read. Assumes nothing.
+use Rattle.std.proofs.Common.{arith, length, ◌≤◌}
 use Rattle.std.proofs.lemmas.Result.{on_ok_weaker}
 use Rattle.formrun.proofs.Worked.{served}
 use Rattle.formrun.proofs.serve.Goals as goal
 
 pub returns : goal.returns
 returns g c =
-    let read = rw (c.take.ensures.limit, c.take.ensures.inner, c.new-frame.ensures.items) at c.in_ok-read_to_end.ensures.bytes in
-    on_ok_weaker c.answer.result
-    (served (g.R.Read.remaining c.args.input.now) _ _ _ (rw c.deref_mut.ensures.value read))
-    c.answer.ensures
+    let s = c.read_input.new.buf in
+    let room : 65537 ≤ length s = omega (arith, c.told-buf, c.read_input.auto.buf) in
+    on_ok_weaker c.write_all.result
+    (served (g.R.Read.remaining c.args.input.now) _ _ c.in_ok-len.len s c.answer-bytes.result.now room c.in_ok-len.ensures.bytes c.answer-bytes.ensures)
+    c.write_all.ensures.bytes
