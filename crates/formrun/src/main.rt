@@ -24,7 +24,7 @@ use std::io::{Read, Write};
 const MOST: usize = 65536;
 
 // One byte more than a frame may have: a buffer that is full shows that the input is too long.
-const ROOM: usize = MOST + 1;
+const ROOM: usize = 65537;
 
 // The longest line of a refusal: `refused `, a number of at most 10 digits, ` at `, a place of at most 20, a newline.
 const LINE: usize = 8 + 10 + 4 + 20 + 1;
