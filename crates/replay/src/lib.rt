@@ -7,7 +7,7 @@ mod in_words; // the values that stand in words
 mod record; // the words of a record
 mod tally; // what is counted
 
-pub use file::{read, report};
+pub use file::{read, read_full, report};
 pub use in_words::InWords;
 pub use record::Record;
 pub use tally::Tally;

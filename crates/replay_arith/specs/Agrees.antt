@@ -1,21 +1,23 @@
--- That a function from records tells what a definition says of their words, and what a file of such records adds. Definitions and a law. Assumes nothing.
-use Rattle.std.specs.Prelude.{◌≡◌, ℕ, Bool, List, ◌∷◌}
+-- What a record of any function of the arithmetic says, and that a function from records tells just that. Definitions only. Assumes nothing.
+use Rattle.std.specs.Prelude.{◌≡◌, ℕ, Bool, List}
 use Rattle.std.specs.Fn.{Shared}
 use Rattle.replay.specs.Words.{words_of}
-use Rattle.replay.specs.Tallies.{File, Replayed, Through, one}
 use Rattle.replay.specs.declared.record.Record.{Record}
-use Rattle.replay.specs.declared.tally.Tally.{Tally}
+use Rattle.replay_arith.specs.OfReal.{of_real}
+use Rattle.replay_arith.specs.OfVector.{of_vector}
+use Rattle.replay_arith.specs.OfMatrix.{of_matrix}
+use Rattle.replay_arith.specs.OfStrain.{of_strain}
+use Rattle.replay_arith.specs.OfShape.{of_shape}
+use Rattle.replay_arith.specs.declared.Function.{Function}
+use Rattle.replay_arith.specs.declared.Function.TheVariants.{Real, Vector, Matrix, Strain, Shape}
 
-module _ {F : Type 0} (g : Shared F (Record × Unit {0}) Bool) (f : F) where
-  -- each answer of f at a record is the definition's at the record's words
-  abbrev pub Tells : (List ℕ → Bool) → Type 0
-  Tells agrees = (r : Record) (b : Bool) → g.post f (r, tt) b → b ≡ agrees (words_of r.bytes.now)
+abbrev pub agreed : Function → List ℕ → Bool
+agreed (Real f) w = of_real f w
+agreed (Vector f) w = of_vector f w
+agreed (Matrix f) w = of_matrix f w
+agreed (Strain f) w = of_strain f w
+agreed (Shape f) w = of_shape f w
 
-  -- r is t with the tally of some bytes added, by whatever definition f tells
-  pub record Adds (size : ℕ) (t r : Tally) : Type 0 where
-    pub by : (agrees : List ℕ → Bool) → Tells agrees → Replayed agrees size t r
-
-  -- one file more
-  pub then_file : {agrees : List ℕ → Bool} {size : ℕ} {fs : List File} {t u r : Tally} → Adds size t u → Tells agrees → Through fs u r
-      → Through (record { agrees = agrees; size = size } ∷ fs) t r
-  then_file {agrees} a tells more = one (a.by agrees tells) more
+-- each answer of f at a record is the definition's at the record's words
+abbrev pub Tells : {F : Type 0} → Shared F (Record × Unit {0}) Bool → F → (List ℕ → Bool) → Type 0
+Tells g f agrees = (r : Record) (b : Bool) → g.post f (r, tt) b → b ≡ agrees (words_of r.bytes.now)

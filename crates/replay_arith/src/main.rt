@@ -9,9 +9,24 @@ mod of_strain;
 mod of_vector;
 mod replayed;
 
+use of_matrix::Matrix;
+use of_real::Real;
+use of_shape::Shape;
+use of_strain::Strain;
+use of_vector::Vector;
 use replay::Tally;
 use replayed::Replay;
 use std::io;
+
+// A function of the arithmetic, by the module that calls it.
+#[derive(Clone, Copy)]
+enum Function {
+    Real(Real),
+    Vector(Vector),
+    Matrix(Matrix),
+    Strain(Strain),
+    Shape(Shape),
+}
 
 // It only writes, which no contract can say. The error is that of the last line, if it cannot be written.
 fn main(rt: HostRuntime) -> io::Result<()> {

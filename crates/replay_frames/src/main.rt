@@ -2,27 +2,52 @@
 // generate.py, which says how it is laid out.
 #![tactic(auto)]
 
-ghost use Rattle.std.specs.Prelude.{◌≡◌, ◌+◌, ◌*◌, ◌<◌, ◌≤◌, length};
+ghost use Rattle.std.specs.Prelude.{◌≡◌, ◌+◌, ◌*◌, ◌<◌, ◌≤◌, length, IfSome};
 ghost use Rattle.little_endian.specs.Bytes.{le16, le32};
 ghost use Rattle.replay_frames.specs.Entries as spec;
 
 use little_endian::{get_u16, get_u32, put_u16, put_u32};
 use records::Answer;
-use replay::Tally;
-use std::{fs, io};
+use replay::{Tally, read_full};
+use std::fs::File;
+use std::io;
+use std::io::Read;
 
 // The base of every frame, and the bytes of an entry.
 const BASE: usize = 4096;
 
 const ENTRY: usize = 22;
 
+// So many batches of so many bytes are read at most: 65,536 entries.
+const BATCHES: usize = 64;
+
+const BATCH: usize = 1024 * ENTRY;
+
 // It only writes, which no contract can say.
 fn main(rt: HostRuntime) -> io::Result<()> {
-    let bytes = fs::read(&rt, "frames")?;
-    let t = bytes
-        .split_first_chunk::<BASE>()
-        .map_or(Tally::NONE, |(base, entries)| replay(base, entries));
+    let mut file = File::open(&rt, "frames")?;
+    let mut base = [0; BASE];
+    read_full(&mut file, &mut base);
+    let t = replay_all(&base, &mut file);
     println!(rt; "{} frames, {} answered otherwise", t.records, t.differ)
+}
+
+// The entries that the input has, at most 65,536 of them: a failed read counts as its end.
+fn replay_all<R: Read>(base: &[u8; BASE], input: &mut R) -> Tally
+    ensures counted { spec.Counted base.now result.records result.differ }
+    ensures few { result.records ≤ 65536 }
+    ensures there { IfSome (R.remaining input.old) (λ xs. 22 * result.records ≤ length xs) }
+{
+    let mut tally = Tally::NONE;
+    let mut batch = [0; BATCH];
+    for _ in 0..BATCHES {
+        let n = read_full(input, &mut batch);
+        tally = tally + replay(base, &batch[..n]);
+        if n < BATCH {
+            break;
+        }
+    }
+    tally
 }
 
 // How many entries there are, and how many of them check answers otherwise than stored.

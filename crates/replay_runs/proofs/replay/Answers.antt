@@ -4,15 +4,15 @@ use Rattle.replay.specs.Tallies.{miss_few}
 use Rattle.replay_runs.specs.Entries.{none, counted}
 use Rattle.replay_runs.proofs.replay.Goals as goal
 
-pub loop-entry-init : goal.loop-entry-init
-loop-entry-init c = record { counted = none; few = search rules; passed = search rules }
+pub loop-init : goal.loop-init
+loop-init g c = record { counted = none; few = search rules; passed = search rules }
 
-pub loop-entry-preserved : goal.loop-entry-preserved
-loop-entry-preserved c =
-    let so_far = c.loop-entry.invariant in
+pub loop-preserved : goal.loop-preserved
+loop-preserved g c =
+    let so_far = c.loop.invariant in
     let next = c.count.ensures in
     record {
-      counted = counted _ _ _ _ so_far.counted c.in_ok-as_stored.ensures next.records next.differ;
-      few = omega (arith, so_far.few, miss_few c.in_ok-as_stored.field-0, next.records, next.differ);
-      passed = omega (arith, so_far.passed, next.records, c.in-Some.ensures);
+      counted = counted _ _ _ _ so_far.counted c.as_stored.ensures next.records next.differ;
+      few = omega (arith, so_far.few, miss_few c.as_stored.result, next.records, next.differ);
+      passed = omega (arith, so_far.passed, next.records);
     }

@@ -1,13 +1,10 @@
-use Rattle.std.proofs.Common.{◌+◌, ◌*◌, ◌≤◌, length}
+use Rattle.std.proofs.Common.{◌≤◌}
 use Rattle.replay_runs.specs.Entries.{Counted}
 use Rattle.replay_runs.proofs.replay.Given as goal
 
-abbrev pub invariant-loop-entry : goal.invariant-loop-entry
-invariant-loop-entry l = record {
+abbrev pub invariant-loop : goal.invariant-loop
+invariant-loop g l = record {
   counted : Counted l.tally.records l.tally.differ;
   few : l.tally.differ ≤ l.tally.records;
-  passed : 12 * l.tally.records + length l.rest ≤ length l.bytes;
+  passed : l.tally.records ≤ l.counter;
 }
-
-abbrev pub decreases-loop-entry : goal.decreases-loop-entry
-decreases-loop-entry l = length l.rest

@@ -1,22 +1,19 @@
--- One file after another, named here since a search does not look into so many calls. Assumes nothing.
-use Rattle.std.proofs.Common.{rules}
-use Rattle.replay.specs.Tallies.{none}
-use Rattle.replay_arith.specs.Agrees.{then_file}
+-- One file after another. Assumes nothing.
+use Rattle.replay.specs.Tallies.{none, one}
 use Rattle.replay_arith.proofs.of_strain.all.Goals as goal
 
 pub returns : goal.returns
 returns g c =
-    then_file _ _ c.file.ensures (λ r b h. search rules)
-    (then_file _ _ c.file-2.ensures (λ r b h. search rules)
-    (then_file _ _ c.file-3.ensures (λ r b h. search rules)
-    (then_file _ _ c.file-4.ensures (λ r b h. search rules)
-    (then_file _ _ c.file-5.ensures (λ r b h. search rules)
-    (then_file _ _ c.file-6.ensures (λ r b h. search rules)
-    (then_file _ _ c.file-7.ensures (λ r b h. search rules)
-    (then_file _ _ c.file-8.ensures (λ r b h. search rules)
-    (then_file _ _ c.file-9.ensures (λ r b h. search rules)
-    (then_file _ _ c.file-10.ensures (λ r b h. search rules)
-    (then_file _ _ c.file-11.ensures (λ r b h. search rules)
-    (then_file _ _ c.file-12.ensures (λ r b h. search rules)
-    (then_file _ _ c.file-13.ensures (λ r b h. search rules)
-    none))))))))))))
+    one c.file.ensures
+    (one c.file-2.ensures
+    (one c.file-3.ensures
+    (one c.file-4.ensures
+    (one c.file-5.ensures
+    (one c.file-6.ensures
+    (one c.file-7.ensures
+    (one c.file-8.ensures
+    (one c.file-9.ensures
+    (one c.file-10.ensures
+    (one c.file-11.ensures
+    (one c.file-12.ensures
+    (one c.file-13.ensures none))))))))))))

@@ -2,4 +2,4 @@
 use Rattle.replay_arith.proofs.replayed.Replay.file.Goals as goal
 
 pub returns : goal.returns
-returns g c = record { by = λ told e. record { bytes = c.deref.result.now; tally = c.walk-tally.result; tallied = c.walk-tally.ensures told e; added = c.add-self.ensures } }
+returns g c = record { bytes = _; tally = c.walk-tally.result; tallied = c.walk-tally.ensures _ c.requires.tells; added = c.add-self.ensures }
