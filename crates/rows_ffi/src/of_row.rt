@@ -22,6 +22,7 @@ fn is_record(b: &[u8]) -> bool
 }
 
 // Whether a pattern is no NaN's, or the one that is written. By bits it has no branch.
+#[tactic(auto, unfolding(crate::specs::Record::is_written))]
 fn is_written(n: u32) -> bool
     ensures { result ≡ spec.is_written n }
 {
