@@ -5,4 +5,4 @@ use Rattle.rows_ffi.specs.Record.{is_written}
 use Rattle.rows_ffi.proofs.of_row.all_written.Given as goal
 
 abbrev pub invariant-loop-i : goal.invariant-loop-i
-invariant-loop-i l = Ran l.n (λ j t. t && is_written (le32 l.b.now (30 + 4 * j))) true l.i l.all
+invariant-loop-i l = Ran l.n (λ j t. t && is_written (le32 l.b (30 + 4 * j))) true l.i l.all
