@@ -16,15 +16,28 @@ pub struct FourVectors {
     pub d: Vec3,
 }
 
+// The same vector. Copied as a whole, its twelve bytes go in two pieces, and who reads four floats at once waits for both:
+// `rt_scalar_compute_gradients` took 83 ns for a distance, part by part 55.
+#[inline(always)]
+fn part_by_part(v: Vec3) -> Vec3
+    ensures { result ≡ v }
+{
+    Vec3 {
+        x: v.x,
+        y: v.y,
+        z: v.z,
+    }
+}
+
 impl From<FourVectors> for Four<Vec3> {
     ghost from_gives = { λ x r. r ≡ as_four x };
 
     fn from(x: FourVectors) -> Four<Vec3> {
         Four {
-            a: x.a,
-            b: x.b,
-            c: x.c,
-            d: x.d,
+            a: part_by_part(x.a),
+            b: part_by_part(x.b),
+            c: part_by_part(x.c),
+            d: part_by_part(x.d),
         }
     }
 }
@@ -34,10 +47,10 @@ impl From<Four<Vec3>> for FourVectors {
 
     fn from(x: Four<Vec3>) -> FourVectors {
         FourVectors {
-            a: x.a,
-            b: x.b,
-            c: x.c,
-            d: x.d,
+            a: part_by_part(x.a),
+            b: part_by_part(x.b),
+            c: part_by_part(x.c),
+            d: part_by_part(x.d),
         }
     }
 }
