@@ -1,10 +1,10 @@
 // formrun: reads a frame of at most 65,536 bytes from standard input and writes the frame after the run; a refused frame gives one line,
 // longer input another.
 //
-// Proved: the bytes that `answer` gives are `output_of` of the frame's, and these `serve` hands to its one write; and where it is known
-// which bytes a reader gives and a writer holds, `serve` reads to the end, or as far as decides, and has written `output_of` of what was
-// there, unless a read or a write fails. Not covered: which bytes the C library's `read` puts into a buffer and its `write` takes out of
-// one: of standard input and output it is not known.
+// Proved: the bytes that `answer` gives are `output_of` of the frame's; and where it is known which bytes a reader gives and a writer
+// holds, `serve` reads to the end, or as far as decides, and has written `output_of` of what was there, unless a read or a write fails.
+// Not covered: that they go out in one write, which no clause says; and which bytes the C library's `read` puts into a buffer and its
+// `write` takes out of one: of standard input and output it is not known.
 // Where a read or a write fails, a line on standard error says so, and the status is 1; after a read that failed nothing is written.
 #![tactic(auto)]
 

@@ -1,11 +1,5 @@
 -- What is told of one entry is counted; and a test that says whether two lists are the same is `equal`. Assumes nothing.
-use Prim.Native.Nat.{ℕ, ◌+◌}
-use mathlib.Core.Path.{◌≡◌, refl, sym, subst}
-use mathlib.Core.Bool.{Bool, true, false}
-use mathlib.Core.List.{List, [], ◌∷◌}
-use native.Mathlib.Omega.{arith}
-use borrow.Author.Tests.{eq-eqb, eqb-true}
-use lib.Dec.{T, eqb}
+use Rattle.std.proofs.Common.{◌≡◌, ℕ, ◌+◌, refl, sym, subst, Bool, true, false, List, [], ◌∷◌, arith, eq-eqb, eqb-true, T, eqb}
 use Rattle.records.proofs.ByKind.{and_both}
 use Rattle.replay_runs.specs.Entries.{equal, as_stored, Counted, one_right, one_wrong}
 

@@ -1,12 +1,8 @@
 -- `formrun::read_input` meets its contract: what has been read fits the buffer, each turn reads more, and what stands in the buffer is what the input lost. Assumes nothing.
-use mathlib.Core.Path.{subst, sym, ap, ◌∙◌}
-use mathlib.Core.List.{List, ◌++◌}
-use Prim.Native.Nat.{ℕ}
-use lib.ListN.{take, drop}
+use Rattle.std.proofs.Common.{subst, sym, ap, ◌∙◌, List, ◌++◌, ℕ, take, drop, rules}
 use Rattle.std.proofs.Math.Seq.{take-add}
 use Rattle.std.proofs.KnownBytes.{Consumes-trans}
 use Rattle.std.specs.Io.KnownBytes.{Consumes}
-use borrow.Author.Rules.{rules}
 use Rattle.formrun.proofs.read_input.Goals as goal
 
 pub loop-done-preserved : goal.loop-done-preserved
